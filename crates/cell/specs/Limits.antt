@@ -1,0 +1,15 @@
+-- The limits of document 01, "What is on the order". Every definition that speaks of a limit takes it from here.
+-- Assumes nothing.
+use Prim.Native.Nat.{ℕ}
+
+-- "States 1 to 64, operations 1 to 16, looms 2 to 8, [...] labels 0 to 32 bytes, each byte 32 to 126, schedules 0 to 4,096 entries."
+pub record Limits : Type 0 where
+  pub states : ℕ
+  pub operations : ℕ
+  pub looms : ℕ
+  pub label : ℕ
+  pub entries : ℕ
+
+-- Today's edition.
+abbrev pub edition : Limits
+edition = record { states = 64; operations = 16; looms = 8; label = 32; entries = 4096 }

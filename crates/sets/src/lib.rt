@@ -1,0 +1,1 @@
+// A set of states in one word.
