@@ -32,6 +32,7 @@ listed-member (suc k) w q m = ⊎-elim (λ l. earlier (listed-member k w q l)) (
   where
     earlier : (q < k) × Member w q → (q < suc k) × Member w q
     earlier h = (omega arith, h .1)
+
     last : (d : ℕ) → bit w k ≡ d → List·Memᴰ q (keep (bit w k) k) → (q < suc k) × Member w q
     last zero e l = absurd (List·Memᴰ·not-nil (rw e at l))
     last (suc d) e l =
@@ -95,6 +96,7 @@ lowest-is-lowest (suc k) w = go (members k w) refl (lowest-is-lowest k w) (bit-c
   where
     nothing-yet : Lowest k w k → (q : ℕ) → q < suc k → bit w k ≡ 0 → bit w q ≡ 0
     nothing-yet l q h e = ⊎-elim (λ (same : q ≡ k). ap (bit w) same ∙ e) (λ (below : q < k). l .none-below q below) (eq-or-lt-of-le (le-of-suc-le-suc h))
+
     go : (xs : List ℕ) → members k w ≡ xs → Lowest k w (getD xs 0 k) → (bit w k ≡ 0) ⊎ (bit w k ≡ 1)
         → Lowest (suc k) w (getD (xs ++ keep (bit w k) k) 0 (suc k))
     go [] all l (inl e) = rw e (record { within = omega arith; none-below = λ q h. nothing-yet l q h e; is-member = λ h. omega arith })
@@ -119,6 +121,7 @@ trailing-is-lowest (suc k) w = go (w % 2) refl (trailing-is-lowest k (w / 2))
     after : (t : ℕ) → w % 2 ≡ 0 → Lowest k (w / 2) t → (q : ℕ) → q < suc t → bit w q ≡ 0
     after t e l zero h = bit-first w ∙ e
     after t e l (suc q) h = bit-after w q ∙ l .none-below q (le-of-suc-le-suc h)
+
     go : (d : ℕ) → w % 2 ≡ d → Lowest k (w / 2) (trailingZeros k (w / 2)) → Lowest (suc k) w (under d (trailingZeros k (w / 2)))
     go zero e l =
         record { within = suc-le-suc (l .within); none-below = after (trailingZeros k (w / 2)) e l; is-member = λ h. bit-after w (trailingZeros k (w / 2)) ∙ l .is-member (le-of-suc-le-suc h) }
@@ -141,8 +144,10 @@ members-rise (suc k) w i j before within = go (members-rise k w i j before) (dec
   where
     rest : List ℕ
     rest = keep (bit w k) k
+
     earlier : (i : ℕ) → i < sizeOf k w → getD (members k w ++ rest) i 0 ≡ getD (members k w) i 0
     earlier i h = List·getD-append (members k w) rest 0 i h
+
     go : (j < sizeOf k w → getD (members k w) i 0 < getD (members k w) j 0) → Dec (j < sizeOf k w)
         → (bit w k ≡ 0) ⊎ (bit w k ≡ 1) → getD (members k w ++ rest) i 0 < getD (members k w ++ rest) j 0
     go rise (yes h) c = rw (earlier i (omega arith), earlier j h) (rise h)

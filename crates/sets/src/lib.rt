@@ -31,23 +31,26 @@ pub fn common(a: u64, b: u64) -> u64
 pub fn insert(set: u64, state: usize) -> u64
     ensures { λ r. ⌜ Inserted wordBits set state r ⌝ }
 {
-    if state < 64 {
-        set | (1 << state)
-    } else {
-        set
-    }
+    if state < 64 { set | (1 << state) } else { set }
 }
 
 // How many states the set has.
 pub fn size(set: u64) -> usize
     ensures { λ r. ⌜ r ≡ sizeOf wordBits set ⌝ }
 {
-    u64::count_ones(set) as usize
+    wide(u64::count_ones(set))
 }
 
 // The lowest state of the set, and 64, which no state has, of the empty set.
 pub fn lowest(set: u64) -> usize
     ensures { λ r. ⌜ r ≡ lowestOf wordBits set ⌝ }
 {
-    u64::trailing_zeros(set) as usize
+    wide(u64::trailing_zeros(set))
+}
+
+// A count of digits, as a number of states.
+fn wide(count: u32) -> usize
+    ensures { λ r. ⌜ r ≡ count ⌝ }
+{
+    count as usize
 }
