@@ -1,0 +1,109 @@
+-- Laws of a table's lookup and of its form.
+-- Assumes nothing.
+use Prim.Native.Nat.{ℕ, zero, suc, _+_, _*_, _^_, _≤_, _<_, zero-le, suc-le-suc}
+use mathlib.Core.Path.{_≡_, refl, sym, ap, subst, _∙_}
+use mathlib.Core.Bool.{Bool, true, false, not}
+use mathlib.Core.List.{List, [], _∷_}
+use native.Mathlib.Nat.{mul-le-mul, le-of-suc-le-suc, le-refl, not-suc-le-zero, le-of-lt, suc-mul, mul-le-mul-right, lt-of-lt-of-le, add-comm, zero-lt-suc, mul-comm}
+use native.Mathlib.Omega.{arith}
+use lib.Dec.{T, leb, ltb, eqb}
+use lib.ListN.{length, getD, drop, drop-of-length-le}
+use lib.Seq.{drop-cons}
+use native.Mathlib.Numerals.{add-one}
+use borrow.Author.Tests.{lt-ltb, le-ltb, le-leb, lt-leb, ltb-false, eq-eqb, ne-eqb}
+use Rattle.cell.specs.declared.Formed.{Formed}
+use Rattle.cell.specs.declared.Moved.{Moved}
+use Rattle.cell.specs.declared.Moved.the-variants.{To, Refused}
+use Rattle.cell.specs.Limits.{edition}
+use Rattle.cell.specs.Table.{position, entryOf, either, nextOf, firstOutside, outsideOf, formed, formOf}
+
+-- The lookup, one law for each way that it ends.
+module _ (table : List ℕ) (states o q : ℕ) where
+  pub refused-states : edition .states < states → nextOf table states o q ≡ Refused
+  unfolding nextOf
+  refused-states many = simp (lt-leb _ _ many)
+
+  module _ (few : states ≤ edition .states) where
+    pub refused-operation : edition .operations ≤ o → nextOf table states o q ≡ Refused
+    unfolding nextOf
+    refused-operation h = simp (le-leb _ _ few, le-ltb _ _ h)
+
+    module _ (fitted : o < edition .operations) where
+      pub refused-state : states ≤ q → nextOf table states o q ≡ Refused
+      unfolding nextOf
+      refused-state h = simp (le-leb _ _ few, lt-ltb _ _ fitted, le-ltb _ _ h)
+
+      -- the position is a number of the machine, whatever the table
+      pub position-bound : q < states → position states o q < edition .operations * edition .states
+      position-bound h =
+          lt-of-lt-of-le
+          (omega (arith, suc-mul o states))
+          (mul-le-mul fitted few)
+
+      module _ (state : q < states) where
+        pub refused-position : length table ≤ position states o q → nextOf table states o q ≡ Refused
+        unfolding nextOf
+        refused-position h = simp (le-leb _ _ few, lt-ltb _ _ fitted, lt-ltb _ _ state, le-ltb _ _ h)
+
+        module _ (there : position states o q < length table) where
+          pub refused-entry : states ≤ entryOf table states o q → nextOf table states o q ≡ Refused
+          unfolding nextOf
+          refused-entry h = simp (le-leb _ _ few, lt-ltb _ _ fitted, lt-ltb _ _ state, lt-ltb _ _ there, le-ltb _ _ h)
+
+          pub moved-to : entryOf table states o q < states → nextOf table states o q ≡ To (entryOf table states o q)
+          unfolding nextOf
+          moved-to h = simp (le-leb _ _ few, lt-ltb _ _ fitted, lt-ltb _ _ state, lt-ltb _ _ there, lt-ltb _ _ h)
+
+-- The first entry outside, looked for from place i on: there, further on, or nowhere.
+module _ (states : ℕ) (table : List ℕ) (i : ℕ) where
+  pub outside-here : i < length table → states ≤ getD table i 0 → i + firstOutside states (drop i table) ≡ i
+  unfolding firstOutside
+  outside-here within h = rw (drop-cons table i 0 within) (simp (le-leb _ _ h) (omega arith))
+
+  pub outside-further : i < length table → getD table i 0 < states
+      → (i + 1) + firstOutside states (drop (i + 1) table) ≡ i + firstOutside states (drop i table)
+  unfolding firstOutside
+  outside-further within h = rw (drop-cons table i 0 within, add-one) (simp (lt-leb _ _ h) (omega arith))
+
+  pub outside-none : length table ≤ i → i + firstOutside states (drop i table) ≡ i
+  unfolding firstOutside
+  outside-none past = rw (drop-of-length-le table past) (omega arith)
+
+-- A number that isn't outside is within.
+pub not-outside : (low high n : ℕ) → outsideOf low high n ≡ false → (low ≤ n) × (n ≤ high)
+not-outside low high n = go (ltb n low) (ltb high n) refl refl
+  where
+    go : (s t : Bool) → ltb n low ≡ s → ltb high n ≡ t → either s t ≡ false → (low ≤ n) × (n ≤ high)
+    go true t e f none = absurd (subst T none tt)
+    go false true e f none = absurd (subst T none tt)
+    go false false e f none = (ltb-false n low e, ltb-false high n f)
+
+-- The form, one law for each way that it ends.
+module _ (table : List ℕ) (states operations : ℕ) where
+  pub form-states : outsideOf 1 (edition .states) states ≡ true → formOf table states operations ≡ formed 2 0
+  unfolding formOf
+  form-states h = simp h
+
+  module _ (few : outsideOf 1 (edition .states) states ≡ false) where
+    pub form-operations : outsideOf 1 (edition .operations) operations ≡ true → formOf table states operations ≡ formed 3 0
+    unfolding formOf
+    form-operations h = simp (few, h)
+
+    module _ (fitted : outsideOf 1 (edition .operations) operations ≡ false) where
+      -- the product is a number of the machine
+      pub entries-bound : states * operations ≤ edition .states * edition .operations
+      entries-bound =
+          mul-le-mul (not-outside 1 (edition .states) states few .1) (not-outside 1 (edition .operations) operations fitted .1)
+
+      pub form-length : (length table ≡ states * operations → ⊥) → formOf table states operations ≡ formed 4 0
+      unfolding formOf
+      form-length h = simp (few, fitted, ne-eqb _ _ h)
+
+      module _ (whole : length table ≡ states * operations) where
+        pub form-entry : firstOutside states table < length table → formOf table states operations ≡ formed 5 (firstOutside states table)
+        unfolding formOf
+        form-entry h = simp (few, fitted, eq-eqb _ _ whole, lt-ltb _ _ h)
+
+        pub form-good : length table ≤ firstOutside states table → formOf table states operations ≡ formed 0 0
+        unfolding formOf
+        form-good h = simp (few, fitted, eq-eqb _ _ whole, le-ltb _ _ h)
