@@ -4,18 +4,18 @@ use Prim.Native.Nat.{ℕ, zero, suc, _+_, _*_, _^_, _≤_, _<_, zero-le, suc-le-
 use mathlib.Core.Path.{_≡_, refl, sym, ap, subst, _∙_}
 use mathlib.Core.Bool.{Bool, true, false, not}
 use mathlib.Core.List.{List, [], _∷_}
-use native.Mathlib.Nat.{mul-le-mul, le-of-suc-le-suc, le-refl, not-suc-le-zero, le-of-lt, suc-mul, mul-le-mul-right, lt-of-lt-of-le, add-comm, zero-lt-suc, mul-comm}
+use native.Mathlib.Nat.{mul-le-mul, le-of-suc-le-suc, le-refl, not-suc-le-zero, le-of-lt, suc-mul, mul-le-mul-right, lt-of-lt-of-le, add-comm, zero-lt-suc, mul-comm, le-of-eq}
 use native.Mathlib.Omega.{arith}
 use lib.Dec.{T, leb, ltb, eqb}
 use lib.ListN.{length, getD, drop, drop-of-length-le}
 use lib.Seq.{drop-cons}
 use native.Mathlib.Numerals.{add-one}
-use borrow.Author.Tests.{lt-ltb, le-ltb, le-leb, lt-leb, ltb-false, eq-eqb, ne-eqb}
+use borrow.Author.Tests.{lt-ltb, le-ltb, le-leb, lt-leb, leb-false, ltb-false, eqb-true, eqb-false, eq-eqb, ne-eqb}
 use Rattle.cell.specs.declared.Formed.{Formed}
 use Rattle.cell.specs.declared.Moved.{Moved}
 use Rattle.cell.specs.declared.Moved.the-variants.{To, Refused}
 use Rattle.cell.specs.Limits.{edition}
-use Rattle.cell.specs.Table.{position, entryOf, either, nextOf, firstOutside, outsideOf, formed, formOf}
+use Rattle.cell.specs.Table.{position, entryOf, either, pick, nextOf, firstOutside, outsideOf, formed, pickFormed, formOf}
 
 -- The lookup, one law for each way that it ends.
 module _ (table : List ℕ) (states o q : ℕ) where
@@ -107,3 +107,77 @@ module _ (table : List ℕ) (states operations : ℕ) where
         pub form-good : length table ≤ firstOutside states table → formOf table states operations ≡ formed 0 0
         unfolding formOf
         form-good h = simp (few, fitted, eq-eqb _ _ whole, le-ltb _ _ h)
+
+-- Where every entry is below states, none is outside.
+pub none-outside : (states : ℕ) (table : List ℕ) → ((i : ℕ) → i < length table → getD table i 0 < states) → firstOutside states table ≡ length table
+unfolding firstOutside
+none-outside states [] below = refl
+none-outside states (e ∷ es) below =
+    rw (lt-leb states e (below 0 (zero-lt-suc (length es)))) (ap suc (none-outside states es (λ i h. below (suc i) (suc-le-suc h))))
+
+-- And the other way: where none is outside, every entry is below states.
+pub all-below : (states : ℕ) (table : List ℕ) → length table ≤ firstOutside states table → (i : ℕ) → i < length table → getD table i 0 < states
+unfolding firstOutside
+all-below states [] none i h = absurd (not-suc-le-zero h)
+all-below states (e ∷ es) none i h = go (all-below states es) (leb states e) refl i h none
+  where
+    go : (length es ≤ firstOutside states es → (i : ℕ) → i < length es → getD es i 0 < states) → (t : Bool) → leb states e ≡ t → (i : ℕ) → i < suc (length es) → suc (length es) ≤ pick t 0 (suc (firstOutside states es)) → getD (e ∷ es) i 0 < states
+    go rest true t i h none = absurd (not-suc-le-zero none)
+    go rest false t zero h none = leb-false states e t
+    go rest false t (suc i) h none = rest (le-of-suc-le-suc none) i (le-of-suc-le-suc h)
+
+-- A table that has form: what its code 0 says.
+pub record HasForm (table : List ℕ) (states operations : ℕ) : Type 0 where
+  pub some-states : 1 ≤ states
+  pub few-states : states ≤ edition .states
+  pub some-operations : 1 ≤ operations
+  pub few-operations : operations ≤ edition .operations
+  pub whole : length table ≡ states * operations
+  pub entries-below : (i : ℕ) → i < length table → getD table i 0 < states
+
+-- Code 0 says that the table has form, and a table that has form gets code 0.
+pub form-says : (table : List ℕ) (states operations : ℕ) → formOf table states operations .code ≡ 0 → HasForm table states operations
+unfolding formOf
+form-says table states operations =
+    go (outsideOf 1 (edition .states) states) (outsideOf 1 (edition .operations) operations) (eqb (length table) (states * operations))
+    (ltb (firstOutside states table) (length table)) refl refl refl refl
+  where
+    go : (s o w e : Bool) → outsideOf 1 (edition .states) states ≡ s → outsideOf 1 (edition .operations) operations ≡ o
+        → eqb (length table) (states * operations) ≡ w → ltb (firstOutside states table) (length table) ≡ e
+        → pickFormed s (formed 2 0)
+          (pickFormed o (formed 3 0) (pickFormed (not w) (formed 4 0) (pickFormed e (formed 5 (firstOutside states table)) (formed 0 0)))) .code ≡ 0
+        → HasForm table states operations
+    go true o w e hs ho hw he code = omega arith
+    go false true w e hs ho hw he code = omega arith
+    go false false false e hs ho hw he code = omega arith
+    go false false true true hs ho hw he code = omega arith
+    go false false true false hs ho hw he code =
+        let s = not-outside 1 (edition .states) states hs in
+        let o = not-outside 1 (edition .operations) operations ho in
+        record {
+          some-states = s .0;
+          few-states = s .1;
+          some-operations = o .0;
+          few-operations = o .1;
+          whole = eqb-true _ _ hw;
+          entries-below = all-below states table (ltb-false _ _ he);
+        }
+
+within-limits : (low high n : ℕ) → low ≤ n → n ≤ high → outsideOf low high n ≡ false
+within-limits low high n l h = simp (le-ltb _ _ l, le-ltb _ _ h)
+
+pub form-of-good : (table : List ℕ) (states operations : ℕ) → HasForm table states operations → formOf table states operations ≡ formed 0 0
+form-of-good table states operations h =
+    form-good table states operations
+    (within-limits 1 (edition .states) states (h .some-states) (h .few-states))
+    (within-limits 1 (edition .operations) operations (h .some-operations) (h .few-operations))
+    (h .whole)
+    (le-of-eq (sym (none-outside states table (h .entries-below))))
+
+-- In a table that has form every operation that is fitted has a next state in every state.
+pub good-moves : (table : List ℕ) (states operations : ℕ) → HasForm table states operations → (o q : ℕ) → o < operations → q < states
+    → (entryOf table states o q < states) × (nextOf table states o q ≡ To (entryOf table states o q))
+good-moves table states operations h o q fitted state =
+    let there : position states o q < length table = rw (h .whole, mul-comm states operations) (lt-of-lt-of-le (omega (arith, suc-mul o states)) (mul-le-mul-right states fitted)) in
+    let below = h .entries-below (position states o q) there in
+    (below, moved-to table states o q (h .few-states) (omega (arith, h .few-operations)) state there below)

@@ -1,0 +1,135 @@
+-- What the catalogue cell's operations do, for any n, and what stands in its table.
+-- Assumes nothing.
+use Prim.Native.Nat.{ℕ, zero, suc, _+_, _-_, _*_, _≤_, _<_}
+use mathlib.Core.Path.{_≡_, refl, sym, ap, ap₂, subst, _∙_}
+use mathlib.Core.Logic.{_⊎_, inl, inr, ⊎-elim}
+use mathlib.Core.Bool.{Bool, true, false}
+use mathlib.Core.List.{List, [], _∷_, _++_}
+use native.Mathlib.Nat.{sub-self, add-zero, eq-or-lt-of-le, le-of-suc-le-suc, not-suc-le-zero, zero-mul, one-mul, add-sub-cancel-left, le-dest, add-suc, suc-add, suc-ne-zero, lt-of-not-le}
+use native.Mathlib.Decide.{decLt}
+use native.Mathlib.Numerals.{add-one}
+use native.Mathlib.Omega.{arith}
+use borrow.Author.Tests.{lt-ltb, le-ltb}
+use lib.Dec.{ltb}
+use lib.ListN.{length, getD, drop, length-append, List·getD-append}
+use lib.Seq.{getD-append-seam, getD-append-add}
+use Rattle.cell.specs.Table.{pick, entryOf}
+use Rattle.cell.specs.Catalogue.{Mark, wonA, wonB, numberOf, markOf, operationZero, operationOne, afterZero, afterOne, each, tableOf}
+
+le-of-not-lt : (q n : ℕ) → ¬ (q < n) → n ≤ q
+le-of-not-lt q n h = omega arith
+
+-- The mark of each state.
+mark-A : (n r : ℕ) → r < n → markOf n r ≡ wonA r
+mark-A n r h = simp (lt-ltb _ _ h)
+
+mark-B : (n r : ℕ) → markOf n (n + r) ≡ wonB r
+mark-B n r = rw (le-ltb (n + r) n (omega arith)) (ap wonB (add-sub-cancel-left n r))
+
+module _ (n r : ℕ) where
+  -- Operation 0 from (A, r), from (B, 0), and from (B, r) with r above 0.
+  pub zero-from-A : r < n → afterZero n r ≡ n
+  zero-from-A h = rw (mark-A n r h) (add-zero n)
+
+  pub zero-from-start : afterZero n (n + 0) ≡ 0
+  zero-from-start = rw (mark-B n 0) refl
+
+  pub zero-stays : afterZero n (n + suc r) ≡ n + suc r
+  zero-stays = rw (mark-B n (suc r)) refl
+
+  -- Operation 1 from (A, r) and from (B, r): up, and from the last row to (B, 0).
+  pub one-up-A : suc r < n → afterOne n r ≡ suc r
+  one-up-A h = rw (mark-A n r (omega arith)) (simp (lt-ltb _ _ h))
+
+  pub one-back-A : suc r ≡ n → afterOne n r ≡ n
+  one-back-A e = rw (mark-A n r (omega arith)) (simp (le-ltb (suc r) n (omega arith)) (add-zero n))
+
+  pub one-up-B : suc r < n → afterOne n (n + r) ≡ n + suc r
+  one-up-B h = rw (mark-B n r) (simp (lt-ltb _ _ h))
+
+  pub one-back-B : n ≤ suc r → afterOne n (n + r) ≡ n
+  one-back-B h = rw (mark-B n r) (simp (le-ltb _ _ h) (add-zero n))
+
+-- The same on the states' numbers, as the code has it.
+pub zero-of-number : (n q : ℕ) → n < q → afterZero n q ≡ q
+zero-of-number n q h =
+    let further = le-dest h in
+    subst (λ (x : ℕ). afterZero n x ≡ x) (add-suc n (further .0) ∙ sym (suc-add n (further .0)) ∙ further .1) (zero-stays n (further .0))
+
+pub one-of-number : (n q : ℕ) → suc q < 2 * n → afterOne n q ≡ suc q
+one-of-number n q h = go (decLt q n)
+  where
+    up : (r : ℕ) → n + r ≡ q → afterOne n q ≡ suc q
+    up r e = subst (λ (x : ℕ). afterOne n x ≡ suc x) e (one-up-B n r (omega arith) ∙ add-suc n r)
+    go : Dec (q < n) → afterOne n q ≡ suc q
+    go (yes below) = ⊎-elim (λ (e : suc q ≡ n). one-back-A n q e ∙ sym e) (one-up-A n q) (eq-or-lt-of-le below)
+    go (no above) = let r = le-dest (le-of-not-lt q n above) in up (r .0) (r .1)
+
+pub one-of-last : (n q : ℕ) → suc q ≡ 2 * n → afterOne n q ≡ n
+one-of-last zero q e = absurd (suc-ne-zero q e)
+one-of-last (suc m) q e =
+    let n = suc m in
+    let last : n + m ≡ q = omega arith in
+    subst (λ (x : ℕ). afterOne n x ≡ n) last (one-back-B n m (omega arith))
+
+-- The operations stay among the 2n states.
+pub zero-below : (n q : ℕ) → q < 2 * n → afterZero n q < 2 * n
+zero-below n q h = go (decLt q n) (decLt n q)
+  where
+    go : Dec (q < n) → Dec (n < q) → afterZero n q < 2 * n
+    go (yes below) d = omega (arith, zero-from-A n q below)
+    go (no above) (yes over) = omega (arith, zero-of-number n q over)
+    go (no above) (no at) =
+        let same : n + 0 ≡ q = omega arith in
+        omega (arith, subst (λ (x : ℕ). afterZero n x ≡ 0) same (zero-from-start n 0))
+
+pub one-below : (n q : ℕ) → q < 2 * n → afterOne n q < 2 * n
+one-below n q h =
+    ⊎-elim
+    (λ (last : suc q ≡ 2 * n). omega (arith, one-of-last n q last))
+    (λ (up : suc q < 2 * n). omega (arith, one-of-number n q up))
+    (eq-or-lt-of-le h)
+
+-- `each` has one entry a state, and it is that state's.
+pub length-each : (f : ℕ → ℕ) (k : ℕ) → length (each f k) ≡ k
+length-each f zero = refl
+length-each f (suc k) = length-append (each f k) (f k ∷ []) ∙ add-one (length (each f k)) ∙ ap suc (length-each f k)
+
+pub getD-each : (f : ℕ → ℕ) (k i : ℕ) → i < k → getD (each f k) i 0 ≡ f i
+getD-each f zero i h = absurd (not-suc-le-zero h)
+getD-each f (suc k) i h =
+    ⊎-elim
+    (λ (last : i ≡ k). subst (λ (x : ℕ). getD (each f k ++ (f k ∷ [])) x 0 ≡ f x) (sym last) (at-end k))
+    (λ (below : i < k). List·getD-append (each f k) (f k ∷ []) 0 i (omega (arith, length-each f k)) ∙ getD-each f k i below)
+    (eq-or-lt-of-le (le-of-suc-le-suc h))
+  where
+    at-end : (k : ℕ) → getD (each f k ++ (f k ∷ [])) k 0 ≡ f k
+    at-end k = ap (λ (x : ℕ). getD (each f k ++ (f k ∷ [])) x 0) (sym (length-each f k)) ∙ getD-append-seam (each f k) (f k) [] 0
+
+-- The table has 4n entries, the first 2n by operation 0 and the others by operation 1.
+pub table-length : (n : ℕ) → length (tableOf n) ≡ 4 * n
+unfolding tableOf
+table-length n =
+    length-append (each (afterZero n) (2 * n)) (each (afterOne n) (2 * n))
+    ∙ ap₂ (λ (x y : ℕ). x + y) (length-each (afterZero n) (2 * n)) (length-each (afterOne n) (2 * n))
+    ∙ omega arith
+
+pub table-of-zero : (n q : ℕ) → q < 2 * n → getD (tableOf n) q 0 ≡ afterZero n q
+unfolding tableOf
+table-of-zero n q h =
+    List·getD-append (each (afterZero n) (2 * n)) (each (afterOne n) (2 * n)) 0 q (omega (arith, length-each (afterZero n) (2 * n)))
+    ∙ getD-each (afterZero n) (2 * n) q h
+
+pub table-of-one : (n q : ℕ) → q < 2 * n → getD (tableOf n) (2 * n + q) 0 ≡ afterOne n q
+unfolding tableOf
+table-of-one n q h =
+    ap (λ (x : ℕ). getD (each (afterZero n) (2 * n) ++ each (afterOne n) (2 * n)) (x + q) 0) (sym (length-each (afterZero n) (2 * n)))
+    ∙ getD-append-add (each (afterZero n) (2 * n)) (each (afterOne n) (2 * n)) q 0
+    ∙ getD-each (afterOne n) (2 * n) q h
+
+-- The lookup of a catalogue table.
+pub entry-of-zero : (n q : ℕ) → q < 2 * n → entryOf (tableOf n) (2 * n) 0 q ≡ afterZero n q
+entry-of-zero n q h = ap (λ (x : ℕ). getD (tableOf n) x 0) (omega (arith, zero-mul (2 * n))) ∙ table-of-zero n q h
+
+pub entry-of-one : (n q : ℕ) → q < 2 * n → entryOf (tableOf n) (2 * n) 1 q ≡ afterOne n q
+entry-of-one n q h = ap (λ (x : ℕ). getD (tableOf n) x 0) (omega (arith, one-mul (2 * n))) ∙ table-of-one n q h
