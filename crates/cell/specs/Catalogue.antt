@@ -53,6 +53,10 @@ each f (suc k) = each f k ++ (f k ∷ [])
 unfoldable pub tableOf : ℕ → List ℕ
 tableOf n = each (afterZero n) (2 * n) ++ each (afterOne n) (2 * n)
 
+-- The entry at a place of that table.
+unfoldable pub entryAt : ℕ → ℕ → ℕ
+entryAt n i = pick (ltb i (2 * n)) (afterZero n i) (afterOne n (i - 2 * n))
+
 -- "Catalogue: 41, then 40." 41: no such catalogue cell; n is from 2 to the most looms. 40: lent room too short.
 unfoldable pub catalogueCode : ℕ → ℕ → ℕ
 catalogueCode n room = pick (outsideOf 2 (edition .looms) n) 41 (pick (ltb room (4 * n)) 40 0)

@@ -13,8 +13,10 @@ use borrow.Author.Tests.{lt-ltb, le-ltb}
 use lib.Dec.{ltb}
 use lib.ListN.{length, getD, drop, length-append, List·getD-append}
 use lib.Seq.{getD-append-seam, getD-append-add}
+use Rattle.cell.specs.Limits.{edition}
 use Rattle.cell.specs.Table.{pick, entryOf}
-use Rattle.cell.specs.Catalogue.{Mark, wonA, wonB, numberOf, markOf, operationZero, operationOne, afterZero, afterOne, each, tableOf}
+use Rattle.cell.specs.TableLaws.{HasForm}
+use Rattle.cell.specs.Catalogue.{Mark, wonA, wonB, numberOf, markOf, operationZero, operationOne, afterZero, afterOne, each, tableOf, entryAt, catalogueCode, catalogueRoom, Catalogued}
 
 le-of-not-lt : (q n : ℕ) → ¬ (q < n) → n ≤ q
 le-of-not-lt q n h = omega arith
@@ -61,6 +63,7 @@ one-of-number n q h = go (decLt q n)
   where
     up : (r : ℕ) → n + r ≡ q → afterOne n q ≡ suc q
     up r e = subst (λ (x : ℕ). afterOne n x ≡ suc x) e (one-up-B n r (omega arith) ∙ add-suc n r)
+
     go : Dec (q < n) → afterOne n q ≡ suc q
     go (yes below) = ⊎-elim (λ (e : suc q ≡ n). one-back-A n q e ∙ sym e) (one-up-A n q) (eq-or-lt-of-le below)
     go (no above) = let r = le-dest (le-of-not-lt q n above) in up (r .0) (r .1)
@@ -127,9 +130,72 @@ table-of-one n q h =
     ∙ getD-append-add (each (afterZero n) (2 * n)) (each (afterOne n) (2 * n)) q 0
     ∙ getD-each (afterOne n) (2 * n) q h
 
+pub table-entry : (n i : ℕ) → i < 4 * n → getD (tableOf n) i 0 ≡ entryAt n i
+unfolding entryAt
+table-entry n i h = go (decLt i (2 * n))
+  where
+    go : Dec (i < 2 * n) → getD (tableOf n) i 0 ≡ pick (ltb i (2 * n)) (afterZero n i) (afterOne n (i - 2 * n))
+    go (yes first) = rw (lt-ltb _ _ first) (table-of-zero n i first)
+    go (no past) =
+        let same : 2 * n + (i - 2 * n) ≡ i = omega arith in
+        rw (le-ltb i (2 * n) (omega arith))
+        (ap (λ (x : ℕ). getD (tableOf n) x 0) (sym same) ∙ table-of-one n (i - 2 * n) (omega arith))
+
 -- The lookup of a catalogue table.
 pub entry-of-zero : (n q : ℕ) → q < 2 * n → entryOf (tableOf n) (2 * n) 0 q ≡ afterZero n q
 entry-of-zero n q h = ap (λ (x : ℕ). getD (tableOf n) x 0) (omega (arith, zero-mul (2 * n))) ∙ table-of-zero n q h
 
 pub entry-of-one : (n q : ℕ) → q < 2 * n → entryOf (tableOf n) (2 * n) 1 q ≡ afterOne n q
 entry-of-one n q h = ap (λ (x : ℕ). getD (tableOf n) x 0) (omega (arith, one-mul (2 * n))) ∙ table-of-one n q h
+
+-- Every entry is one of the 2n states.
+pub table-below : (n i : ℕ) → i < 4 * n → getD (tableOf n) i 0 < 2 * n
+table-below n i h = go (decLt i (2 * n))
+  where
+    go : Dec (i < 2 * n) → getD (tableOf n) i 0 < 2 * n
+    go (yes first) = omega (arith, table-of-zero n i first, zero-below n i first)
+    go (no past) =
+        let same : 2 * n + (i - 2 * n) ≡ i = omega arith in
+        let at : getD (tableOf n) i 0 ≡ afterOne n (i - 2 * n) =
+        ap (λ (x : ℕ). getD (tableOf n) x 0) (sym same) ∙ table-of-one n (i - 2 * n) (omega arith) in
+        omega (arith, one-below n (i - 2 * n) (omega arith))
+
+-- The catalogue's table has form, with 2n states and two operations.
+pub catalogue-has-form : (n : ℕ) → 2 ≤ n → n ≤ edition .looms → HasForm (tableOf n) (2 * n) 2
+catalogue-has-form n some few =
+    record {
+      some-states = omega arith;
+      few-states = omega arith;
+      some-operations = omega arith;
+      few-operations = omega arith;
+      whole = table-length n ∙ omega arith;
+      entries-below = λ i h. table-below n i (omega (arith, table-length n));
+    }
+
+-- What `catalogue` answers, one law for each way that it ends.
+module _ (n : ℕ) (room : List ℕ) where
+  pub no-cell-below : n < 2 → Catalogued n room 41 room
+  unfolding catalogueCode catalogueRoom
+  no-cell-below h = record { answer = simp (lt-ltb _ _ h); room = simp (lt-ltb _ _ h) }
+
+  module _ (some : 2 ≤ n) where
+    pub no-cell-above : edition .looms < n → Catalogued n room 41 room
+    unfolding catalogueCode catalogueRoom
+    no-cell-above h = record { answer = simp (le-ltb _ _ some, lt-ltb _ _ h); room = simp (le-ltb _ _ some, lt-ltb _ _ h) }
+
+    module _ (few : n ≤ edition .looms) where
+      pub room-too-short : length room < 4 * n → Catalogued n room 40 room
+      unfolding catalogueCode catalogueRoom
+      room-too-short h =
+          record {
+            answer = simp (le-ltb _ _ some, le-ltb _ _ few, lt-ltb _ _ h);
+            room = simp (le-ltb _ _ some, le-ltb _ _ few, lt-ltb _ _ h);
+          }
+
+      pub cell-written : 4 * n ≤ length room → Catalogued n room 0 (tableOf n ++ drop (4 * n) room)
+      unfolding catalogueCode catalogueRoom
+      cell-written h =
+          record {
+            answer = simp (le-ltb _ _ some, le-ltb _ _ few, le-ltb _ _ h);
+            room = simp (le-ltb _ _ some, le-ltb _ _ few, le-ltb _ _ h);
+          }

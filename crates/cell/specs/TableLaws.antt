@@ -145,7 +145,7 @@ form-says table states operations =
     go : (s o w e : Bool) → outsideOf 1 (edition .states) states ≡ s → outsideOf 1 (edition .operations) operations ≡ o
         → eqb (length table) (states * operations) ≡ w → ltb (firstOutside states table) (length table) ≡ e
         → pickFormed s (formed 2 0)
-          (pickFormed o (formed 3 0) (pickFormed (not w) (formed 4 0) (pickFormed e (formed 5 (firstOutside states table)) (formed 0 0)))) .code ≡ 0
+        (pickFormed o (formed 3 0) (pickFormed (not w) (formed 4 0) (pickFormed e (formed 5 (firstOutside states table)) (formed 0 0)))) .code ≡ 0
         → HasForm table states operations
     go true o w e hs ho hw he code = omega arith
     go false true w e hs ho hw he code = omega arith

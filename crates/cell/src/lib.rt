@@ -1,4 +1,7 @@
 // The limits of document 01, and a cell's table: its form and its one lookup.
+mod catalogue_cell;
+
+pub use catalogue_cell::catalogue;
 ghost use mathlib.Core.Path.{_≡_};
 ghost use Rattle.cell.specs.Table.{formOf, nextOf, firstOutside, outsideOf};
 
