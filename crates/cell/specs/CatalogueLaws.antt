@@ -9,14 +9,14 @@ use native.Mathlib.Nat.{sub-self, add-zero, eq-or-lt-of-le, le-of-suc-le-suc, no
 use native.Mathlib.Decide.{decLt}
 use native.Mathlib.Numerals.{add-one}
 use native.Mathlib.Omega.{arith}
-use borrow.Author.Tests.{lt-ltb, le-ltb}
+use borrow.Author.Tests.{lt-ltb, le-ltb, ltb-false}
 use lib.Dec.{ltb}
 use lib.ListN.{length, getD, drop, length-append, List·getD-append}
 use lib.Seq.{getD-append-seam, getD-append-add}
 use Rattle.cell.specs.Limits.{edition}
-use Rattle.cell.specs.Table.{pick, entryOf}
-use Rattle.cell.specs.TableLaws.{HasForm}
-use Rattle.cell.specs.Catalogue.{Mark, wonA, wonB, numberOf, markOf, operationZero, operationOne, afterZero, afterOne, each, tableOf, entryAt, catalogueCode, catalogueRoom, Catalogued}
+use Rattle.cell.specs.Table.{pick, entryOf, outsideOf}
+use Rattle.cell.specs.TableLaws.{HasForm, not-outside}
+use Rattle.cell.specs.Catalogue.{Mark, wonA, wonB, numberOf, markOf, operationZero, operationOne, afterZero, afterOne, each, tableOf, entryAt, catalogueCode, writtenUnder, catalogueRoom, Catalogued}
 
 le-of-not-lt : (q n : ℕ) → ¬ (q < n) → n ≤ q
 le-of-not-lt q n h = omega arith
@@ -172,30 +172,46 @@ catalogue-has-form n some few =
       entries-below = λ i h. table-below n i (omega (arith, table-length n));
     }
 
--- What `catalogue` answers, one law for each way that it ends.
-module _ (n : ℕ) (room : List ℕ) where
-  pub no-cell-below : n < 2 → Catalogued n room 41 room
-  unfolding catalogueCode catalogueRoom
-  no-cell-below h = record { answer = simp (lt-ltb _ _ h); room = simp (lt-ltb _ _ h) }
+-- The code, one law for each way that it ends.
+module _ (n room : ℕ) where
+  pub no-cell-below : n < 2 → catalogueCode n room ≡ 41
+  unfolding catalogueCode
+  no-cell-below h = simp (lt-ltb _ _ h)
 
   module _ (some : 2 ≤ n) where
-    pub no-cell-above : edition .looms < n → Catalogued n room 41 room
-    unfolding catalogueCode catalogueRoom
-    no-cell-above h = record { answer = simp (le-ltb _ _ some, lt-ltb _ _ h); room = simp (le-ltb _ _ some, lt-ltb _ _ h) }
+    pub no-cell-above : edition .looms < n → catalogueCode n room ≡ 41
+    unfolding catalogueCode
+    no-cell-above h = simp (le-ltb _ _ some, lt-ltb _ _ h)
 
     module _ (few : n ≤ edition .looms) where
-      pub room-too-short : length room < 4 * n → Catalogued n room 40 room
-      unfolding catalogueCode catalogueRoom
-      room-too-short h =
-          record {
-            answer = simp (le-ltb _ _ some, le-ltb _ _ few, lt-ltb _ _ h);
-            room = simp (le-ltb _ _ some, le-ltb _ _ few, lt-ltb _ _ h);
-          }
+      pub room-too-short : room < 4 * n → catalogueCode n room ≡ 40
+      unfolding catalogueCode
+      room-too-short h = simp (le-ltb _ _ some, le-ltb _ _ few, lt-ltb _ _ h)
 
-      pub cell-written : 4 * n ≤ length room → Catalogued n room 0 (tableOf n ++ drop (4 * n) room)
-      unfolding catalogueCode catalogueRoom
-      cell-written h =
-          record {
-            answer = simp (le-ltb _ _ some, le-ltb _ _ few, le-ltb _ _ h);
-            room = simp (le-ltb _ _ some, le-ltb _ _ few, le-ltb _ _ h);
-          }
+      pub room-enough : 4 * n ≤ room → catalogueCode n room ≡ 0
+      unfolding catalogueCode
+      room-enough h = simp (le-ltb _ _ some, le-ltb _ _ few, le-ltb _ _ h)
+
+-- Code 0 says that there is such a cell, and room for it.
+pub code-says : (n room : ℕ) → catalogueCode n room ≡ 0 → (2 ≤ n) × (n ≤ edition .looms) × (4 * n ≤ room)
+unfolding catalogueCode
+code-says n room = go (outsideOf 2 (edition .looms) n) (ltb room (4 * n)) refl refl
+  where
+    go : (s t : Bool) → outsideOf 2 (edition .looms) n ≡ s → ltb room (4 * n) ≡ t → pick s 41 (pick t 40 0) ≡ 0
+        → (2 ≤ n) × (n ≤ edition .looms) × (4 * n ≤ room)
+    go true t hs ht code = omega arith
+    go false true hs ht code = omega arith
+    go false false hs ht code = let w = not-outside 2 (edition .looms) n hs in (w .0, w .1, ltb-false _ _ ht)
+
+-- What a call leaves: the room written where the code is 0, else as it was.
+pub written-catalogued : (n : ℕ) (room : List ℕ) → catalogueCode n (length room) ≡ 0 → Catalogued n room 0 (tableOf n ++ drop (4 * n) room)
+unfolding catalogueRoom
+written-catalogued n room e = record { answer = sym e; room = rw e }
+
+pub refused-catalogued : (n : ℕ) (room : List ℕ) → (catalogueCode n (length room) ≡ 0 → ⊥) → Catalogued n room (catalogueCode n (length room)) room
+unfolding catalogueRoom
+refused-catalogued n room h = record { answer = refl; room = go (catalogueCode n (length room)) h }
+  where
+    go : (code : ℕ) → (code ≡ 0 → ⊥) → room ≡ writtenUnder code (tableOf n ++ drop (4 * n) room) room
+    go zero none = absurd (none refl)
+    go (suc code) none = refl

@@ -4,12 +4,23 @@ ghost use Prim.Native.Nat.{_*_, _<_, _≤_};
 ghost use mathlib.Core.List.{_++_};
 ghost use lib.ListN.{length, drop};
 ghost use Rattle.cell.specs.Limits.{edition};
-ghost use Rattle.cell.specs.Catalogue.{afterZero, afterOne, entryAt, tableOf, Catalogued};
+ghost use Rattle.cell.specs.Catalogue.{afterZero, afterOne, entryAt, tableOf, catalogueCode, Catalogued};
 
 // Fills the room with the table of the catalogue cell of size n, 4n bytes, and answers 0. Later bytes stay. 41 if there is no such cell,
 // 40 if the room is too short; a refusal writes nothing.
 pub fn catalogue(n: usize, room: &mut [u8]) -> u8
     ensures { λ r. ⌜ Catalogued n (now (room .entry)) r (now (room .exit)) ⌝ }
+{
+    let code = refusal(n, room.len());
+    if code == 0 {
+        fill(n, room);
+    }
+    code
+}
+
+// The code of a catalogue call: 41, then 40, else 0.
+fn refusal(n: usize, room: usize) -> u8
+    ensures { λ r. ⌜ r ≡ catalogueCode n room ⌝ }
 {
     if n < 2 {
         return 41;
@@ -17,10 +28,9 @@ pub fn catalogue(n: usize, room: &mut [u8]) -> u8
     if crate::LOOMS < n {
         return 41;
     }
-    if room.len() < 4 * n {
+    if room < 4 * n {
         return 40;
     }
-    fill(n, room);
     0
 }
 

@@ -1,42 +1,47 @@
--- `cell::catalogue_cell::catalogue` meets its contract: each way out is one of the catalogue's laws.
+-- `cell::catalogue_cell::catalogue` meets its contract: code 0 has room for the table, and any other code leaves the room.
 -- Assumes nothing.
 use Prim.Native.Nat.{ℕ}
-use mathlib.Core.Path.{sym, subst}
+use mathlib.Core.Path.{_≡_, sym, subst, subst₂, _∙_}
 use mathlib.Core.List.{List}
+use native.Mathlib.Omega.{arith}
+use lib.ListN.{length}
 use borrow.Author.Needs.{needs}
-use Rattle.cell.specs.Catalogue.{Catalogued}
-use Rattle.cell.specs.CatalogueLaws.{no-cell-below, no-cell-above, room-too-short, cell-written}
+use Rattle.cell.specs.Catalogue.{catalogueCode, Catalogued}
+use Rattle.cell.specs.CatalogueLaws.{code-says, written-catalogued, refused-catalogued}
 use Rattle.cell.proofs.catalogue_cell.catalogue.Statement.{statement}
 use Rattle.cell.proofs.catalogue_cell.catalogue.Tie as tie
 
-returns : tie.Need-returns
-returns c = no-cell-below _ _ (c .if1 .taken)
+refusal-requires : tie.Need-refusal-requires
+refusal-requires c κs = search needs
 
-returns-2 : tie.Need-returns-2
-returns-2 c = no-cell-above _ _ (c .before .if1 .left) (c .if2 .taken)
-
-mul-if3 : tie.Need-mul-if3
-mul-if3 c = search needs
-
-returns-3 : tie.Need-returns-3
-returns-3 c = room-too-short _ _ (c .before .before .if1 .left) (c .before .if2 .left) (c .if3 .taken)
+-- where the room is written, the code was 0
+accepted : (c : tie.Then1) → catalogueCode (c .before .before .before .args .n) (length (c .before .before .before .args .room .now)) ≡ 0
+accepted c = sym (c .before .refusal .ensures) ∙ c .if1 .taken
 
 fill-requires : tie.Need-fill-requires
-fill-requires c κs = search needs
+fill-requires c κs = let says = code-says _ _ (accepted (c .before)) in (says .1, says .2)
 
 same-length : tie.Need-same-length
 same-length c = search needs
 
-returns-4 : tie.Need-returns-4
-returns-4 c =
+returns : tie.Need-returns
+returns c =
     let filled = c .before .before in
-    let room = filled .before .before in
-    let args = room .before .before .before .before .args in
-    subst
-    (λ (after : List ℕ). Catalogued (args .n) (args .room .now) 0 after)
+    let then = filled .before .before in
+    let args = then .before .before .before .args in
+    subst₂
+    (λ (code : ℕ) (after : List ℕ). Catalogued (args .n) (args .room .now) code after)
+    (sym (then .if1 .taken))
     (sym (filled .fill .ensures))
-    (cell-written (args .n) (args .room .now) (room .before .before .if1 .left) (room .before .if2 .left) (room .if3 .left))
+    (written-catalogued (args .n) (args .room .now) (accepted then))
+
+returns-2 : tie.Need-returns-2
+returns-2 c =
+    let args = c .before .before .before .args in
+    subst
+    (λ (code : ℕ). Catalogued (args .n) (args .room .now) code (args .room .now))
+    (sym (c .before .refusal .ensures))
+    (refused-catalogued (args .n) (args .room .now) (λ e. c .if1 .left (c .before .refusal .ensures ∙ e)))
 
 pub catalogue-spec : {M : Type 1} → statement M
-catalogue-spec =
-    tie.close (tie.spec returns returns-2 mul-if3 returns-3 fill-requires same-length returns-4)
+catalogue-spec = tie.close (tie.spec refusal-requires fill-requires same-length returns returns-2)
