@@ -1,0 +1,155 @@
+/* Our side of the comparison: answers framed calls on standard input through the archive of the crate `boundary`.
+ * A frame is a 32-bit little-endian length and so many bytes. A call is a function's number and its arguments; a number is
+ * eight bytes, little-endian; a slice is a 32-bit count and its bytes or words. An answer has the results in order, and then each lent
+ * slice as the function left it. */
+typedef unsigned char u8;
+typedef unsigned int u32;
+typedef unsigned long u64;
+
+/* The few functions of C's library that are called: an Arm machine has no headers for x86-64. */
+long read(int file, void *room, u64 length);
+long write(int file, const void *bytes, u64 length);
+void exit(int status) __attribute__((noreturn));
+void *memcpy(void *to, const void *from, u64 length);
+
+/* The crate `boundary`. A slice is passed as where it begins and how long it is. */
+_Bool linuktabay_has(u64 set, u64 state);
+u64 linuktabay_union(u64 a, u64 b);
+u64 linuktabay_common(u64 a, u64 b);
+u64 linuktabay_insert(u64 set, u64 state);
+u64 linuktabay_size(u64 set);
+u64 linuktabay_lowest(u64 set);
+u8 linuktabay_catalogue(u64 n, u8 *room, u64 length);
+u8 linuktabay_form_code(const u8 *table, u64 length, u64 states, u64 operations);
+u64 linuktabay_form_place(const u8 *table, u64 length, u64 states, u64 operations);
+u64 linuktabay_next(const u8 *table, u64 length, u64 states, u64 operation, u64 state);
+
+enum { ROOM = 1 << 20 };
+
+static u8 call[ROOM], answer[ROOM];
+static u32 called, at, answered;
+
+/* A call that is cut short, or of no known function, is a fault of the test: it ends the run. */
+static void stop(const char *why, u64 length) {
+    write(2, why, length);
+    exit(3);
+}
+#define STOP(why) stop(why "\n", sizeof why)
+
+static const u8 *taken(u32 count) {
+    if (called - at < count) STOP("driver: a call ends too soon");
+    at += count;
+    return call + at - count;
+}
+
+static u64 number(void) {
+    u64 n;
+    memcpy(&n, taken(8), 8);
+    return n;
+}
+
+struct bytes {
+    u8 *first;
+    u64 length;
+};
+
+static u32 count(void) {
+    u32 n;
+    memcpy(&n, taken(4), 4);
+    return n;
+}
+
+/* A slice of bytes, lent where it lies in the call. */
+static struct bytes bytes(void) {
+    u32 n = count();
+    return (struct bytes){(u8 *)taken(n), n};
+}
+
+static void put(const void *from, u32 length) {
+    if (ROOM - answered < length) STOP("driver: an answer is too long");
+    memcpy(answer + answered, from, length);
+    answered += length;
+}
+
+static void say(u64 n) { put(&n, 8); }
+
+static void say_bytes(struct bytes b) {
+    u32 n = b.length;
+    put(&n, 4);
+    put(b.first, n);
+}
+
+static void of_sets(u8 function) {
+    u64 a = number();
+    if (function == 4) return say(linuktabay_size(a));
+    if (function == 5) return say(linuktabay_lowest(a));
+    u64 b = number();
+    if (function == 1) return say(linuktabay_has(a, b));
+    if (function == 2) return say(linuktabay_union(a, b));
+    if (function == 3) return say(linuktabay_insert(a, b));
+    say(linuktabay_common(a, b));
+}
+
+static void catalogue(void) {
+    u64 n = number();
+    struct bytes room = bytes();
+    say(linuktabay_catalogue(n, room.first, room.length));
+    say_bytes(room);
+}
+
+static void next(void) {
+    struct bytes table = bytes();
+    u64 states = number(), operation = number(), state = number();
+    u64 moved = linuktabay_next(table.first, table.length, states, operation, state);
+    say(moved != 0);
+    say(moved != 0 ? moved - 1 : 0);
+}
+
+static void form(void) {
+    struct bytes table = bytes();
+    u64 states = number(), operations = number();
+    say(linuktabay_form_code(table.first, table.length, states, operations));
+    say(linuktabay_form_place(table.first, table.length, states, operations));
+}
+
+static void answer_call(void) {
+    u8 function = *taken(1);
+    switch (function) {
+    case 0: return say(1);
+    case 1: case 2: case 3: case 4: case 5: case 6: return of_sets(function);
+    case 10: return catalogue();
+    case 11: return next();
+    case 12: return form();
+    default: STOP("driver: no such function");
+    }
+}
+
+static int filled(void *room, u32 length) {
+    for (u32 got = 0; got < length;) {
+        long n = read(0, (u8 *)room + got, length - got);
+        if (n <= 0) return 0;
+        got += n;
+    }
+    return 1;
+}
+
+static void written(const void *from, u32 length) {
+    for (u32 done = 0; done < length;) {
+        long n = write(1, (const u8 *)from + done, length - done);
+        if (n <= 0) STOP("driver: nobody reads the answers");
+        done += n;
+    }
+}
+
+int main(void) {
+    while (filled(&called, 4)) {
+        if (called > ROOM || !filled(call, called)) STOP("driver: a frame ends too soon");
+        at = 0;
+        answered = 4;
+        answer_call();
+        u32 length = answered - 4;
+        memcpy(answer, &length, 4);
+        written(answer, answered);
+    }
+    return 0;
+}
