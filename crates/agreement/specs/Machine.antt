@@ -1,0 +1,100 @@
+-- The looms of a group as one machine: document 01, "One loom's steps"; source document 000, steps and crashes.
+-- Over any looms, any operations and any rules. Each step brings the number that its loom would post, so that nothing here says who
+-- posts what.
+-- Assumes nothing.
+use Prim.Native.Nat.{ℕ}
+use mathlib.Core.Bool.{Bool, true, false}
+use mathlib.Core.List.{List, [], _∷_}
+use lib.Dec.{eqb, ltb}
+use lib.ListN.{length}
+use Rattle.recording.specs.declared.Seat.{Seat}
+use Rattle.recording.specs.Recording.{sideAt, operationAt}
+use Rattle.loom.specs.declared.Side.{Side}
+use Rattle.loom.specs.declared.Place.{Place}
+use Rattle.loom.specs.declared.Place.the-variants.{Begin, Posted, Looking, Ready, Applied, Bound, Answered}
+use Rattle.loom.specs.declared.Shared.{Shared}
+use Rattle.loom.specs.declared.Said.{Said}
+use Rattle.loom.specs.declared.Said.the-variants.{Nothing, Application, Answer}
+use Rattle.loom.specs.Sides.{sideFrom}
+use Rattle.loom.specs.Turn.{Rules, Turn, turnOf, pickPlace}
+
+-- What can be seen of a machine at work.
+pub data Event : Type 0 where
+  -- loom k, of side s, wrote v in its side's register
+  posted : ℕ → Side → ℕ → Event
+  -- loom k, of side s, applied its operation to the cell
+  applied : ℕ → Side → Event
+  -- loom k answered with side s and number v
+  answered : ℕ → Side → ℕ → Event
+
+-- What can be done to it: loom k steps, and would post v; "a restart of a loom"; "a restart of all".
+pub data Act : Type 0 where
+  step : ℕ → ℕ → Act
+  restart : ℕ → Act
+  restartAll : Act
+
+-- The memory that the looms share, each loom's place, and the events so far, the latest first.
+pub record State : Type 0 where
+  pub shared : Shared
+  pub place : ℕ → Place
+  pub log : List Event
+
+-- The side of loom k.
+abbrev pub sideOf : List Seat → ℕ → Side
+sideOf looms k = sideFrom (sideAt looms k)
+
+-- The places with p for loom k and no other changed.
+unfoldable pub changedAt : (ℕ → Place) → ℕ → Place → ℕ → Place
+changedAt place k p j = pickPlace (eqb j k) p (place j)
+
+-- The log after a post: a step from begin.
+unfoldable pub withPost : ℕ → Side → ℕ → Place → List Event → List Event
+withPost k s v Begin log = posted k s v ∷ log
+withPost k s v Posted log = log
+withPost k s v Looking log = log
+withPost k s v Ready log = log
+withPost k s v Applied log = log
+withPost k s v (Bound x) log = log
+withPost k s v (Answered x) log = log
+
+-- The log after what a step said.
+unfoldable pub withSaid : ℕ → Side → Said → List Event → List Event
+withSaid k s Nothing log = log
+withSaid k s Application log = applied k s ∷ log
+withSaid k s (Answer x v) log = answered k x v ∷ log
+
+-- The state after the turn of loom k, of side s, that would have posted v.
+unfoldable pub turned : ℕ → Side → ℕ → State → Turn → State
+turned k s v S t =
+  record { shared = t .shared; place = changedAt (S .place) k (t .place); log = withSaid k s (t .said) (withPost k s v (S .place k) (S .log)) }
+
+-- The first of two where the test holds, else the second.
+abbrev pub pickState : Bool → State → State → State
+pickState true S T = S
+pickState false S T = T
+
+-- The state with other places: all that a restart changes.
+abbrev pub replaced : State → (ℕ → Place) → State
+replaced S place = record { shared = S .shared; place = place; log = S .log }
+
+module _ (next : ℕ → ℕ → ℕ) (looms : List Seat) (R : Rules) where
+  -- One step of loom k: its turn by the table of places. A loom that has answered changes nothing.
+  unfoldable pub stepped : ℕ → ℕ → State → State
+  stepped k v S = turned k (sideOf looms k) v S (turnOf R (sideOf looms k) v (next (operationAt looms k)) (S .shared) (S .place k))
+
+  -- One act. A step of no loom of the group changes nothing.
+  -- "A restart of a loom sets its place to begin [...], in any place, answered included. A restart of all does it to every loom. Neither
+  -- touches the shared memory."
+  unfoldable pub acted : Act → State → State
+  acted (step k v) S = pickState (ltb k (length looms)) (stepped k v S) S
+  acted (restart k) S = replaced S (changedAt (S .place) k Begin)
+  acted restartAll S = replaced S (λ k. Begin)
+
+  -- Each act on what the last handed back.
+  unfoldable pub after : List Act → State → State
+  after [] S = S
+  after (a ∷ acts) S = after acts (acted a S)
+
+-- "The cell at the start, registers 0, [...] every loom at begin", and nothing has happened.
+abbrev pub opening : ℕ → State
+opening start = record { shared = record { cell = start; a = 0; b = 0 }; place = λ k. Begin; log = [] }
