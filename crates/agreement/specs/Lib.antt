@@ -1,2 +1,5 @@
 pub mod Machine
 pub mod Agreed
+pub mod Fitted
+pub mod Orders
+pub mod Teams

@@ -63,10 +63,10 @@ withSaid k s Nothing log = log
 withSaid k s Application log = applied k s ∷ log
 withSaid k s (Answer x v) log = answered k x v ∷ log
 
--- The state after the turn of loom k, of side s, that would have posted v.
-unfoldable pub turned : ℕ → Side → ℕ → State → Turn → State
-turned k s v S t =
-  record { shared = t .shared; place = changedAt (S .place) k (t .place); log = withSaid k s (t .said) (withPost k s v (S .place k) (S .log)) }
+-- The state after turn t of loom k, of side s, from place p; v is the number that it would post.
+unfoldable pub turned : ℕ → Side → ℕ → Place → Turn → State → State
+turned k s v p t S =
+  record { shared = t .shared; place = changedAt (S .place) k (t .place); log = withSaid k s (t .said) (withPost k s v p (S .log)) }
 
 -- The first of two where the test holds, else the second.
 abbrev pub pickState : Bool → State → State → State
@@ -78,9 +78,12 @@ abbrev pub replaced : State → (ℕ → Place) → State
 replaced S place = record { shared = S .shared; place = place; log = S .log }
 
 module _ (next : ℕ → ℕ → ℕ) (looms : List Seat) (R : Rules) where
-  -- One step of loom k: its turn by the table of places. A loom that has answered changes nothing.
+  -- One step of loom k, from its place: its turn by the table of places. A loom that has answered changes nothing.
+  unfoldable pub steppedFrom : ℕ → ℕ → Place → State → State
+  steppedFrom k v p S = turned k (sideOf looms k) v p (turnOf R (sideOf looms k) v (next (operationAt looms k)) (S .shared) p) S
+
   unfoldable pub stepped : ℕ → ℕ → State → State
-  stepped k v S = turned k (sideOf looms k) v S (turnOf R (sideOf looms k) v (next (operationAt looms k)) (S .shared) (S .place k))
+  stepped k v S = steppedFrom k v (S .place k) S
 
   -- One act. A step of no loom of the group changes nothing.
   -- "A restart of a loom sets its place to begin [...], in any place, answered included. A restart of all does it to every loom. Neither

@@ -1,0 +1,100 @@
+-- 003's sets by the looms' sides, and its Lemma 7.
+-- Assumes nothing.
+use Prim.Native.Nat.{ℕ, zero, suc, _≤_, _<_}
+use native.Mathlib.Nat.{le-of-suc-le-suc, not-suc-le-zero}
+use native.Mathlib.Omega.{arith}
+use mathlib.Core.Path.{_≡_, refl, ap, sym, _∙_, subst}
+use mathlib.Core.Bool.{Bool, true, false}
+use mathlib.Core.Logic.{_⊎_, inl, inr}
+use mathlib.Core.List.{List, [], _∷_, _++_}
+use lib.ListN.{length}
+use Rattle.recording.specs.declared.Seat.{Seat}
+use Rattle.recording.specs.Recording.{sideAt, operationAt, sideCount, times, Order, reached, InSet, Recording}
+use Rattle.loom.specs.declared.Side.{Side}
+use Rattle.loom.specs.declared.Side.the-variants.{A, B}
+use Rattle.loom.specs.Sides.{sideNumber, sideFrom, other, sameSide}
+use Rattle.loom.specs.Turn.{Rules, decided, pickSide}
+use Rattle.agreement.specs.Machine.{sideOf}
+use Rattle.agreement.specs.Fitted.{Renders, Fitted}
+use Rattle.agreement.specs.Orders.{order-of-one, order-of-one-more, reached-by-one-more, lone}
+
+-- There are two sides.
+pub either : (s t : Side) → (s ≡ t) ⊎ (s ≡ other t)
+either A A = inl refl
+either A B = inr refl
+either B A = inr refl
+either B B = inl refl
+
+pub other-other : (s : Side) → other (other s) ≡ s
+other-other A = refl
+other-other B = refl
+
+pub not-other : (s : Side) → s ≡ other s → ⊥
+not-other A e = let z : _≡_ {A = ℕ} 0 1 = cc in omega arith
+not-other B e = let z : _≡_ {A = ℕ} 0 1 = cc in omega arith
+
+pub same-side : (s t : Side) → sameSide s t ≡ true → s ≡ t
+same-side A A e = refl
+same-side A B e = cc
+same-side B A e = cc
+same-side B B e = refl
+
+pub same-as-itself : (s : Side) → sameSide s s ≡ true
+same-as-itself A = refl
+same-as-itself B = refl
+
+pub number-of-side : (n : ℕ) → n ≤ 1 → n ≡ sideNumber (sideFrom n)
+number-of-side zero h = refl
+number-of-side (suc zero) h = refl
+number-of-side (suc (suc n)) h = absurd (not-suc-le-zero (le-of-suc-le-suc h))
+
+module _ {next : ℕ → ℕ → ℕ} {looms : List Seat} {start : ℕ} {R : Rules} (given : Fitted next looms start R) where
+  -- Loom k's number for its side.
+  pub side-number : (k : ℕ) (X : Side) → sideOf looms k ≡ X → sideAt looms k ≡ sideNumber X
+  side-number k X e = number-of-side (sideAt looms k) (given .sides k) ∙ ap sideNumber e
+
+  -- "No state is in both sets."
+  pub sets-apart : (X : Side) (q : ℕ) → InSet next looms start (sideNumber X) q → InSet next looms start (sideNumber (other X)) q → ⊥
+  sets-apart A q x y = given .recording .apart q x y
+  sets-apart B q x y = given .recording .apart q y x
+
+  -- "The start isn't in the set of X, or the other side has one loom."
+  pub start-or-alone : (X : Side) → (InSet next looms start (sideNumber X) start → ⊥) ⊎ (sideCount (sideNumber (other X)) looms ≡ 1)
+  start-or-alone A = given .recording .start-and-A
+  start-or-alone B = given .recording .start-and-B
+
+  -- Lemma 7. If the start isn't in the set of X, a sequence that comes back to the start has every loom of X in it: a loom j of X that is
+  -- not in it could begin one from the start, and end this one, with the same state.
+  pub every-loom-appears : (X : Side) → (InSet next looms start (sideNumber X) start → ⊥) → (Z : Side) (us : List ℕ) →
+    Order looms (sideNumber Z) us → reached next looms start us ≡ start → (j : ℕ) → j < length looms → sideOf looms j ≡ X → times j us ≡ 0 → ⊥
+  every-loom-appears X not-in Z us order back j here side absent = by-first (either Z X)
+    where
+      by-first : (Z ≡ X) ⊎ (Z ≡ other X) → ⊥
+      by-first (inl e) = not-in (us, (rw e at order), back)
+      by-first (inr e) =
+        sets-apart
+          X
+          (next (operationAt looms j) start)
+          (j ∷ [], order-of-one looms (sideNumber X) j here (side-number j X side), refl)
+          (us ++ (j ∷ []), order-of-one-more looms (sideNumber (other X)) j us (rw e at order) here absent,
+            reached-by-one-more next looms start j us ∙ ap (next (operationAt looms j)) back)
+
+  -- In the set of X the cell decides for X.
+  pub decides : (X : Side) (q : ℕ) → InSet next looms start (sideNumber X) q → decided R q ≡ X
+  decides X q member = by-side (either X (R .leading)) (R .inLeading q) refl
+    where
+      by-side : (X ≡ R .leading) ⊎ (X ≡ other (R .leading)) → (b : Bool) → R .inLeading q ≡ b → pickSide b (R .leading) (other (R .leading)) ≡ X
+      by-side (inl e) true t = sym e
+      by-side (inl e) false t =
+        let yes′ : R .inLeading q ≡ true = given .renders .the-set q .1 (rw e at member) in
+        cc
+      by-side (inr e) false t = sym e
+      by-side (inr e) true t =
+        absurd (sets-apart (R .leading) q (given .renders .the-set q .0 t) (rw e at member))
+
+  -- Two looms of a yielding side that yields are the same loom.
+  pub one-yields : (i j : ℕ) → R .yieldsAlone ≡ true → i < length looms → j < length looms → sideOf looms i ≡ other (R .leading) →
+    sideOf looms j ≡ other (R .leading) → i ≡ j
+  one-yields i j alone hi hj si sj =
+    let count = given .renders .the-count .0 alone in
+    lone (sideNumber (other (R .leading))) looms (omega arith) i j hi hj (side-number i _ si) (side-number j _ sj)
