@@ -3,3 +3,5 @@ pub mod Agreed
 pub mod Fitted
 pub mod Orders
 pub mod Teams
+pub mod Phases
+pub mod LogLaws

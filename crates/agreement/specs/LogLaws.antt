@@ -1,0 +1,98 @@
+-- Laws of logs, of the registers, and of the places changed at one loom.
+-- Assumes nothing.
+use Prim.Native.Nat.{ℕ}
+use native.Mathlib.Omega.{arith}
+use mathlib.Core.Path.{_≡_, refl, ap, sym, _∙_}
+use mathlib.Core.Bool.{Bool, true, false}
+use mathlib.Core.Logic.{_⊎_, inl, inr}
+use mathlib.Core.List.{List, [], _∷_, _++_}
+use lib.Dec.{eqb}
+use borrow.Author.Tests.{eqb-true, eqb-false}
+use Rattle.loom.specs.declared.Side.{Side}
+use Rattle.loom.specs.declared.Side.the-variants.{A, B}
+use Rattle.loom.specs.declared.Place.{Place}
+use Rattle.loom.specs.declared.Shared.{Shared}
+use Rattle.loom.specs.Sides.{other, register, withRegister}
+use Rattle.loom.specs.Turn.{pickPlace}
+use Rattle.agreement.specs.Machine.{Event, posted, applied, answered, changedAt}
+use Rattle.agreement.specs.Agreed.{Came, Had, NoneApplied}
+use Rattle.agreement.specs.Teams.{either}
+use Rattle.agreement.specs.Phases.{Filled, Fits, AllFit, Honest}
+
+-- Nothing is in an empty log.
+pub had-nothing : (e : Event) → Had e [] → ⊥
+had-nothing e (older, ([], same)) = let z : _≡_ {A = ℕ} 0 1 = cc in omega arith
+had-nothing e (older, (d ∷ later, same)) = let z : _≡_ {A = ℕ} 0 1 = cc in omega arith
+
+-- The latest event is in the log.
+pub had-latest : (e : Event) (log : List Event) → Had e (e ∷ log)
+had-latest e log = (log, ([], refl))
+
+-- What was in the log stays in it.
+pub had-still : (e d : Event) (log : List Event) → Had e log → Had e (d ∷ log)
+had-still e d log (older, (later, same)) = (older, (d ∷ later, ap (λ l. d ∷ l) same))
+
+-- An event in the log is the latest or was there before.
+pub had-before : (e d : Event) (log : List Event) → Had e (d ∷ log) → (d ≡ e) ⊎ Had e log
+had-before e d log (older, ([], same)) = inl (cc)
+had-before e d log (older, (c ∷ later, same)) = inr (older, (later, cc))
+
+-- A post is no application.
+pub none-applied-by-post : (k : ℕ) (s : Side) (v : ℕ) (log : List Event) → NoneApplied log → NoneApplied (posted k s v ∷ log)
+none-applied-by-post k s v log none i t had = by-cases (had-before (applied i t) (posted k s v) log had)
+  where
+    by-cases : (posted k s v ≡ applied i t) ⊎ Had (applied i t) log → ⊥
+    by-cases (inl e) = let z : _≡_ {A = ℕ} 0 1 = cc in omega arith
+    by-cases (inr old) = none i t old
+
+-- Who had applied before has applied.
+pub still-applied : (d : Event) (log : List Event) → (NoneApplied log → ⊥) → NoneApplied (d ∷ log) → ⊥
+still-applied d log some none = some (λ i t had. none i t (had-still (applied i t) d log had))
+
+-- What fits, fits at every event.
+pub fits-at : (X : Side) (e : Event) (older log : List Event) → AllFit X log → Came e older log → Fits X e older
+fits-at X e older log fit (later, same) = within later (rw same at fit)
+  where
+    within : (later : List Event) → AllFit X (later ++ (e ∷ older)) → Fits X e older
+    within [] all = all .0
+    within (d ∷ later) all = within later (all .1)
+
+-- A post writes one register, and not the cell.
+pub cell-kept : (m : Shared) (s : Side) (v : ℕ) → withRegister m s v .cell ≡ m .cell
+cell-kept m A v = refl
+cell-kept m B v = refl
+
+pub register-written : (m : Shared) (s : Side) (v : ℕ) → register (withRegister m s v) s ≡ v
+register-written m A v = refl
+register-written m B v = refl
+
+pub register-kept : (m : Shared) (s : Side) (v : ℕ) → register (withRegister m s v) (other s) ≡ register m (other s)
+register-kept m A v = refl
+register-kept m B v = refl
+
+-- A register that is filled stays filled, and what it holds was posted.
+pub filled-still : (m : Shared) (s : Side) (v : ℕ) → Filled v → (x : Side) → Filled (register m x) → Filled (register (withRegister m s v) x)
+filled-still m s v some x old = by-side (either x s)
+  where
+    by-side : (x ≡ s) ⊎ (x ≡ other s) → Filled (register (withRegister m s v) x)
+    by-side (inl e) none = some (sym (register-written m s v) ∙ rw e at none)
+    by-side (inr e) none = old (rw e (sym (register-kept m s v) ∙ rw e at none))
+
+pub honest-post : (k : ℕ) (m : Shared) (s : Side) (v : ℕ) (log : List Event) → Honest m log → Honest (withRegister m s v) (posted k s v ∷ log)
+honest-post k m s v log old x full = by-side (either x s)
+  where
+    by-side : (x ≡ s) ⊎ (x ≡ other s) → (j : ℕ) × Had (posted j x (register (withRegister m s v) x)) (posted k s v ∷ log)
+    by-side (inl e) = (k, rw (e, register-written m s v) (had-latest (posted k s v) log))
+    by-side (inr e) =
+      let was = old (other s) (rw (← register-kept m s v, ← e) full) in
+      (was .0, rw (e, register-kept m s v) (had-still (posted (was .0) (other s) (register m (other s))) (posted k s v) log (was .1)))
+
+-- What holds of the changed loom by its new place, and of each other by its own, holds of all.
+pub changed-all : (Q : ℕ → Place → Type 0) (place : ℕ → Place) (k : ℕ) (p : Place) → Q k p → ((j : ℕ) → (j ≡ k → ⊥) → Q j (place j)) →
+  (j : ℕ) → Q j (changedAt place k p j)
+unfolding changedAt
+changed-all Q place k p new old j = by-test (eqb j k) refl
+  where
+    by-test : (b : Bool) → eqb j k ≡ b → Q j (pickPlace b p (place j))
+    by-test true e = rw (eqb-true j k e) new
+    by-test false e = old j (eqb-false j k e)
