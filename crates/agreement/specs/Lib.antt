@@ -5,3 +5,4 @@ pub mod Orders
 pub mod Teams
 pub mod Phases
 pub mod LogLaws
+pub mod PhasesLaws

@@ -1,0 +1,121 @@
+-- The invariant of three phases holds at the opening and through every act.
+-- Assumes nothing.
+use Prim.Native.Nat.{ℕ, zero, suc, _<_}
+use native.Mathlib.Omega.{arith}
+use mathlib.Core.Path.{_≡_, refl, ap, sym, _∙_}
+use mathlib.Core.Bool.{Bool, true, false}
+use mathlib.Core.Logic.{_⊎_, inl, inr}
+use mathlib.Core.List.{List, [], _∷_, _++_}
+use lib.Dec.{T, eqb, ltb}
+use lib.ListN.{length}
+use borrow.Author.Tests.{eqb-true, eqb-false, eq-eqb, ne-eqb, ltb-true}
+use Rattle.recording.specs.declared.Seat.{Seat}
+use Rattle.recording.specs.Recording.{operationAt, times, FirstIs, Order, reached, InSet}
+use Rattle.loom.specs.declared.Side.{Side}
+use Rattle.loom.specs.declared.Place.{Place}
+use Rattle.loom.specs.declared.Place.the-variants.{Begin, Posted, Looking, Ready, Applied, Bound, Answered}
+use Rattle.loom.specs.declared.Shared.{Shared}
+use Rattle.loom.specs.Sides.{sideNumber, other, sameSide, register, withRegister, withCell}
+use Rattle.loom.specs.Turn.{Rules, Turn, turnOf, pickSide, pickPlace, decided, both, looks, afterPosted, afterLooking}
+use Rattle.agreement.specs.Machine.{Event, posted, applied, answered, Act, step, restart, restartAll, State, sideOf, changedAt, withPost, withSaid, turned, pickState, replaced, steppedFrom, stepped, acted, after, opening}
+use Rattle.agreement.specs.Agreed.{Had, NoneApplied}
+use Rattle.agreement.specs.Fitted.{Renders, Fitted}
+use Rattle.agreement.specs.Orders.{order-of-one, order-of-one-more, reached-by-one-more, not-in-one-more, not-itself}
+use Rattle.agreement.specs.Teams.{either, other-other, not-other, same-side, same-as-itself, side-number, start-or-alone, every-loom-appears, decides, one-yields}
+use Rattle.agreement.specs.Phases.{Phase, fresh, even, first, Filled, AllFit, Honest, Wins, MayApply, MayLook, MayRead, Stands, Begun, Fresh, Even, First, Phased, Holds}
+use Rattle.agreement.specs.LogLaws.{had-nothing, had-latest, none-applied-by-post, still-applied, cell-kept, register-written, filled-still, honest-post, changed-all}
+
+module _ {next : ℕ → ℕ → ℕ} {looms : List Seat} {start : ℕ} {R : Rules} (given : Fitted next looms start R) where
+  -- The invariant with another place for loom k, and nothing else changed.
+  pub holds-placed : (S : State) (k : ℕ) (p : Place) (known : Holds next looms start R S) → Stands next looms start R (known .phase) k p →
+    Begun next looms start R (S .shared) k p → Holds next looms start R (replaced S (changedAt (S .place) k p))
+  holds-placed S k p known stands begins =
+    record
+      { phase = known .phase;
+        phased = known .phased;
+        stands = changed-all (Stands next looms start R (known .phase)) (S .place) k p stands (λ j apart. known .stands j);
+        begins = changed-all (Begun next looms start R (S .shared)) (S .place) k p begins (λ j apart. known .begins j);
+        honest = known .honest
+      }
+
+  -- A post changes no phase.
+  pub phased-post : (phase : Phase) (m : Shared) (log : List Event) (k : ℕ) (s : Side) (v : ℕ) → Filled v → Phased next looms start R phase m log →
+    Phased next looms start R phase (withRegister m s v) (posted k s v ∷ log)
+  phased-post fresh m log k s v some known =
+    record { at-start = cell-kept m s v ∙ known .at-start; unapplied = none-applied-by-post k s v log (known .unapplied); fit = λ X. (tt, known .fit X) }
+  phased-post even m log k s v some known =
+    record
+      { at-start = cell-kept m s v ∙ known .at-start;
+        led = filled-still m s v some (R .leading) (known .led);
+        alone = known .alone;
+        fit = (tt, known .fit)
+      }
+  phased-post (first X us) m log k s v some (known, away) =
+    (record
+      { reaches = cell-kept m s v ∙ known .reaches;
+        order = known .order;
+        led = filled-still m s v some X (known .led);
+        some-applied = still-applied (posted k s v) log (known .some-applied);
+        fit = (tt, known .fit)
+      },
+      λ back. away (sym (cell-kept m s v) ∙ back))
+
+  pub holds-posted : (S : State) (k v : ℕ) → k < length looms → Filled v → Holds next looms start R S →
+    Holds next looms start R (steppedFrom next looms R k v Begin S)
+  unfolding steppedFrom turned turnOf withPost withSaid
+  holds-posted S k v here some known =
+    record
+      { phase = known .phase;
+        phased = phased-post (known .phase) (S .shared) (S .log) k (sideOf looms k) v some (known .phased);
+        stands = changed-all (Stands next looms start R (known .phase)) (S .place) k Posted tt (λ j apart. known .stands j);
+        begins =
+          changed-all
+            (Begun next looms start R (withRegister (S .shared) (sideOf looms k) v))
+            (S .place)
+            k
+            Posted
+            (λ t. (here, λ none. some (sym (register-written (S .shared) (sideOf looms k) v) ∙ none)))
+            (λ j apart t. (known .begins j t .0, filled-still (S .shared) (sideOf looms k) v some (sideOf looms j) (known .begins j t .1)));
+        honest = honest-post k (S .shared) (sideOf looms k) v (S .log) (known .honest)
+      }
+
+  -- A loom of the yielding side looks, where that side has one loom; and only such a loom.
+  pub looks-yields : (s : Side) → looks R s ≡ true → (s ≡ other (R .leading)) × (R .yieldsAlone ≡ true)
+  looks-yields s = by-test (R .yieldsAlone)
+    where
+      by-test : (b : Bool) → both b (sameSide s (other (R .leading))) ≡ true → (s ≡ other (R .leading)) × (b ≡ true)
+      by-test true e = (same-side s (other (R .leading)) e, refl)
+      by-test false e = absurd (let z : _≡_ {A = ℕ} 0 1 = cc in omega arith)
+
+  pub not-looking-leads : (s : Side) → R .yieldsAlone ≡ true → looks R s ≡ false → s ≡ R .leading
+  not-looking-leads s alone unlooking = by-side (either s (R .leading))
+    where
+      by-side : (s ≡ R .leading) ⊎ (s ≡ other (R .leading)) → s ≡ R .leading
+      by-side (inl e) = e
+      by-side (inr e) =
+        let seen : sameSide s (other (R .leading)) ≡ true = rw e (same-as-itself (other (R .leading))) in
+        let looking : looks R s ≡ true = rw (alone, seen) refl in
+        absurd (let z : _≡_ {A = ℕ} 0 1 = cc in omega arith)
+
+  -- From the start a posted loom goes on to look or to be ready.
+  pub stands-at-start : (phase : Phase) (k q : ℕ) → q ≡ start → MayLook next looms start R phase k →
+    (looks R (sideOf looms k) ≡ false → MayApply next looms start R phase k) → Stands next looms start R phase k (afterPosted R (sideOf looms k) q)
+  unfolding afterPosted
+  stands-at-start phase k q at-start look apply =
+    rw (eq-eqb q (R .start) (at-start ∙ sym (given .renders .the-start))) (by-test (looks R (sideOf looms k)) refl)
+    where
+      by-test : (b : Bool) → looks R (sideOf looms k) ≡ b → Stands next looms start R phase k (pickPlace b Looking Ready)
+      by-test true e = (looks-yields (sideOf looms k) e .0, looks-yields (sideOf looms k) e .1, look)
+      by-test false e = apply e
+
+  -- What a posted loom reads in the cell leaves it where the phase allows.
+  pub stands-posted : (phase : Phase) (m : Shared) (log : List Event) (k : ℕ) → Phased next looms start R phase m log →
+    Stands next looms start R phase k (afterPosted R (sideOf looms k) (m .cell))
+  unfolding afterPosted
+  stands-posted fresh m log k known = stands-at-start fresh k (m .cell) (known .at-start) tt (λ e. tt)
+  stands-posted even m log k known =
+    stands-at-start even k (m .cell) (known .at-start) tt (λ e. not-looking-leads (sideOf looms k) (known .alone) e)
+  stands-posted (first X us) m log k (known, away) =
+    rw
+      (ne-eqb (m .cell) (R .start) (λ e. away (e ∙ given .renders .the-start)))
+      (decides given X (m .cell) (us, known .order, sym (known .reaches)))
