@@ -2,6 +2,7 @@
 -- Assumes nothing.
 use Prim.Native.Nat.{ℕ, zero, suc, _+_, _≤_, _<_}
 use native.Mathlib.Nat.{le-of-suc-le-suc, not-suc-le-zero}
+use native.Mathlib.Decide.{decLt}
 use native.Mathlib.Omega.{arith}
 use mathlib.Core.Path.{_≡_, refl, ap, sym, _∙_}
 use mathlib.Core.Bool.{Bool, true, false}
@@ -64,6 +65,18 @@ order-of-one-more looms X k us order here new =
     each : (j : ℕ) (b : Bool) → eqb k j ≡ b → times j (us ++ (k ∷ [])) ≤ 1
     each j true e = rw (← eqb-true k j e) (omega (arith, times-of-one-more k k us, once-itself k))
     each j false e = omega (arith, times-of-one-more j k us, ap one e, order .each-once j)
+
+-- An order of X has a loom of X in it.
+pub loom-of-order : (looms : List Seat) (X : ℕ) (us : List ℕ) → Order looms X us →
+  (u : ℕ) × (u < length looms) × (sideAt looms u ≡ X) × (times u us ≡ 0 → ⊥)
+loom-of-order looms X [] order = absurd (order .first-of-X)
+loom-of-order looms X (u ∷ us) order = (u, by-cases (decLt u (length looms)), order .first-of-X, present)
+  where
+    present : times u (u ∷ us) ≡ 0 → ⊥
+    present none = omega (arith, once-itself u)
+    by-cases : Dec (u < length looms) → u < length looms
+    by-cases (yes here) = here
+    by-cases (no past) = absurd (present (order .looms-of-it u (omega arith)))
 
 -- A side with a loom is counted.
 pub some-of-side : (X : ℕ) (looms : List Seat) (k : ℕ) → k < length looms → sideAt looms k ≡ X → 1 ≤ sideCount X looms

@@ -21,7 +21,7 @@ use Rattle.agreement.specs.Machine.{Event, posted, applied, answered, Ac
 use Rattle.agreement.specs.Agreed.{Had, NoneApplied}
 use Rattle.agreement.specs.Fitted.{Renders, Fitted}
 use Rattle.agreement.specs.Orders.{order-of-one, order-of-one-more, reached-by-one-more, not-in-one-more, not-itself}
-use Rattle.agreement.specs.Teams.{either, other-other, not-other, same-side, same-as-itself, side-number, start-or-alone, every-loom-appears, decides, one-yields}
+use Rattle.agreement.specs.Teams.{either, other-other, not-other, same-side, same-as-itself, side-number, start-or-alone, every-loom-appears, decides, one-yields, leads-without}
 use Rattle.agreement.specs.Phases.{Phase, fresh, even, first, Filled, AllFit, Honest, Wins, MayApply, MayLook, MayRead, Stands, Begun, Fresh, Even, First, Phased, Holds}
 use Rattle.agreement.specs.LogLaws.{had-nothing, had-latest, none-applied-by-post, still-applied, cell-kept, register-written, filled-still, honest-post, changed-all}
 
@@ -119,3 +119,84 @@ module _ {next : ℕ → ℕ → ℕ} {looms : List Seat} {start : ℕ} {R : Rul
     rw
       (ne-eqb (m .cell) (R .start) (λ e. away (e ∙ given .renders .the-start)))
       (decides given X (m .cell) (us, known .order, sym (known .reaches)))
+
+  -- In a fresh machine the yielding loom yields: from now on the leading side wins. No other loom of its side is there to be ready.
+  pub holds-yielding : (S : State) (k : ℕ) → k < length looms → sideOf looms k ≡ other (R .leading) → R .yieldsAlone ≡ true →
+    Filled (register (S .shared) (R .leading)) → Fresh next looms start R (S .shared) (S .log) →
+    ((j : ℕ) → Stands next looms start R fresh j (S .place j)) → ((j : ℕ) → Begun next looms start R (S .shared) j (S .place j)) →
+    (x : Side) → x ≡ R .leading → (j : ℕ) → Stands next looms start R even j (changedAt (S .place) k (Bound x) j)
+  holds-yielding S k here yields alone led known stands begins x wins =
+    changed-all (Stands next looms start R even) (S .place) k (Bound x) wins (λ j apart. others j apart (S .place j) (stands j) (begins j))
+    where
+      leads : (j : ℕ) → (j ≡ k → ⊥) → j < length looms → sideOf looms j ≡ R .leading
+      leads j apart there = by-side (either (sideOf looms j) (R .leading))
+        where
+          by-side : (sideOf looms j ≡ R .leading) ⊎ (sideOf looms j ≡ other (R .leading)) → sideOf looms j ≡ R .leading
+          by-side (inl e) = e
+          by-side (inr e) = absurd (apart (one-yields given j k alone there here e yields))
+      others : (j : ℕ) → (j ≡ k → ⊥) → (p : Place) → Stands next looms start R fresh j p → Begun next looms start R (S .shared) j p →
+        Stands next looms start R even j p
+      others j apart Begin old begin = tt
+      others j apart Posted old begin = tt
+      others j apart Looking old begin = (old .0, old .1, tt)
+      others j apart Ready old begin = leads j apart (begin tt .0)
+      others j apart Applied old begin = absurd old
+      others j apart (Bound y) old begin = absurd old
+      others j apart (Answered y) old begin = absurd old
+
+  -- The other side of a loom that looks is the leading side.
+  pub looks-at-leading : (s : Side) → s ≡ other (R .leading) → other s ≡ R .leading
+  looks-at-leading s yields = ap other yields ∙ other-other (R .leading)
+
+  -- A loom that finds the leading register empty is ready; one that finds a number is bound to the leading side.
+  pub stands-unposted : (phase : Phase) (m : Shared) (log : List Event) (k : ℕ) → Phased next looms start R phase m log →
+    register m (R .leading) ≡ 0 → MayLook next looms start R phase k → MayApply next looms start R phase k
+  stands-unposted fresh m log k known empty look = tt
+  stands-unposted even m log k known empty look = absurd (known .led empty)
+  stands-unposted (first X us) m log k known empty look = look
+
+  pub holds-bound : (S : State) (k : ℕ) (x : Side) (known : Holds next looms start R S) → Stands next looms start R (known .phase) k Looking →
+    Begun next looms start R (S .shared) k (Bound x) → Filled (register (S .shared) (R .leading)) → x ≡ R .leading →
+    Holds next looms start R (replaced S (changedAt (S .place) k (Bound x)))
+  holds-bound S k x known stands begins led leads = by-phase (known .phase) (known .phased) (known .stands) stands
+    where
+      by-phase : (phase : Phase) → Phased next looms start R phase (S .shared) (S .log) → ((j : ℕ) → Stands next looms start R phase j (S .place j)) →
+        Stands next looms start R phase k Looking → Holds next looms start R (replaced S (changedAt (S .place) k (Bound x)))
+      by-phase fresh known′ all here =
+        record
+          { phase = even;
+            phased = record { at-start = known′ .at-start; led = led; alone = here .1; fit = known′ .fit (R .leading) };
+            stands = holds-yielding S k (begins tt .0) (here .0) (here .1) led known′ all (known .begins) x leads;
+            begins = changed-all (Begun next looms start R (S .shared)) (S .place) k (Bound x) begins (λ j apart. known .begins j);
+            honest = known .honest
+          }
+      by-phase even known′ all here =
+        holds-placed S k (Bound x) (record { phase = even; phased = known′; stands = all; begins = known .begins; honest = known .honest }) leads begins
+      by-phase (first X us) known′ all here =
+        holds-placed
+          S
+          k
+          (Bound x)
+          (record { phase = first X us; phased = known′; stands = all; begins = known .begins; honest = known .honest })
+          (leads ∙ sym (leads-without given k X us (here .1) (begins tt .0) (here .0) (known′ .0 .order) (here .2)))
+          begins
+
+  pub holds-looked : (S : State) (k v : ℕ) (known : Holds next looms start R S) → Stands next looms start R (known .phase) k Looking →
+    Begun next looms start R (S .shared) k Looking → Holds next looms start R (steppedFrom next looms R k v Looking S)
+  unfolding steppedFrom turned turnOf afterLooking withPost withSaid
+  holds-looked S k v known stands begins = by-register (register (S .shared) (other (sideOf looms k))) refl
+    where
+      leads : other (sideOf looms k) ≡ R .leading
+      leads = looks-at-leading (sideOf looms k) (stands .0)
+      by-register : (w : ℕ) → register (S .shared) (other (sideOf looms k)) ≡ w →
+        Holds next looms start R (replaced S (changedAt (S .place) k (afterLooking (sideOf looms k) w)))
+      by-register zero e =
+        holds-placed
+          S
+          k
+          Ready
+          known
+          (stands-unposted (known .phase) (S .shared) (S .log) k (known .phased) (rw leads at e) (stands .2))
+          begins
+      by-register (suc w) e =
+        holds-bound S k (other (sideOf looms k)) known stands begins (λ none. omega (arith, rw leads at e)) leads

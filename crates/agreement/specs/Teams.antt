@@ -16,7 +16,7 @@ use Rattle.loom.specs.Sides.{sideNumber, sideFrom, other, sameSide}
 use Rattle.loom.specs.Turn.{Rules, decided, pickSide}
 use Rattle.agreement.specs.Machine.{sideOf}
 use Rattle.agreement.specs.Fitted.{Renders, Fitted}
-use Rattle.agreement.specs.Orders.{order-of-one, order-of-one-more, reached-by-one-more, lone}
+use Rattle.agreement.specs.Orders.{order-of-one, order-of-one-more, reached-by-one-more, loom-of-order, lone}
 
 -- There are two sides.
 pub either : (s t : Side) → (s ≡ t) ⊎ (s ≡ other t)
@@ -47,6 +47,10 @@ pub number-of-side : (n : ℕ) → n ≤ 1 → n ≡ sideNumber (sideFrom n)
 number-of-side zero h = refl
 number-of-side (suc zero) h = refl
 number-of-side (suc (suc n)) h = absurd (not-suc-le-zero (le-of-suc-le-suc h))
+
+pub side-of-number : (s : Side) → sideFrom (sideNumber s) ≡ s
+side-of-number A = refl
+side-of-number B = refl
 
 module _ {next : ℕ → ℕ → ℕ} {looms : List Seat} {start : ℕ} {R : Rules} (given : Fitted next looms start R) where
   -- Loom k's number for its side.
@@ -98,3 +102,15 @@ module _ {next : ℕ → ℕ → ℕ} {looms : List Seat} {start : ℕ} {R : Rul
   one-yields i j alone hi hj si sj =
     let count = given .renders .the-count .0 alone in
     lone (sideNumber (other (R .leading))) looms (omega arith) i j hi hj (side-number i _ si) (side-number j _ sj)
+
+  -- Where the lone yielding loom is not in an order, the order is not of its side.
+  pub leads-without : (k : ℕ) (X : Side) (us : List ℕ) → R .yieldsAlone ≡ true → k < length looms → sideOf looms k ≡ other (R .leading) →
+    Order looms (sideNumber X) us → times k us ≡ 0 → X ≡ R .leading
+  leads-without k X us alone here yields order absent = by-side (either X (R .leading))
+    where
+      by-side : (X ≡ R .leading) ⊎ (X ≡ other (R .leading)) → X ≡ R .leading
+      by-side (inl e) = e
+      by-side (inr e) =
+        let found = loom-of-order looms (sideNumber X) us order in
+        let side : sideOf looms (found .0) ≡ other (R .leading) = ap sideFrom (found .2) ∙ side-of-number X ∙ e in
+        absurd (found .3 (rw (one-yields (found .0) k alone (found .1) here side yields) absent))
