@@ -12,7 +12,7 @@ use Rattle.loom.specs.declared.Side.{Side}
 use Rattle.loom.specs.declared.Side.the-variants.{A, B}
 use Rattle.loom.specs.declared.Place.{Place}
 use Rattle.loom.specs.declared.Shared.{Shared}
-use Rattle.loom.specs.Sides.{other, register, withRegister}
+use Rattle.loom.specs.Sides.{other, register, withRegister, withCell}
 use Rattle.loom.specs.Turn.{pickPlace}
 use Rattle.agreement.specs.Machine.{Event, posted, applied, answered, changedAt}
 use Rattle.agreement.specs.Agreed.{Came, Had, NoneApplied}
@@ -86,6 +86,16 @@ honest-post k m s v log old x full = by-side (either x s)
     by-side (inr e) =
       let was = old (other s) (rw (← register-kept m s v, ← e) full) in
       (was .0, rw (e, register-kept m s v) (had-still (posted (was .0) (other s) (register m (other s))) (posted k s v) log (was .1)))
+
+-- An application writes the cell, and no register.
+pub register-untouched : (m : Shared) (q : ℕ) (x : Side) → register (withCell m q) x ≡ register m x
+register-untouched m q A = refl
+register-untouched m q B = refl
+
+pub honest-application : (k : ℕ) (s : Side) (m : Shared) (q : ℕ) (log : List Event) → Honest m log → Honest (withCell m q) (applied k s ∷ log)
+honest-application k s m q log old x full =
+  let was = old x (rw (register-untouched m q x) at full) in
+  (was .0, rw (register-untouched m q x) (had-still (posted (was .0) x (register m x)) (applied k s) log (was .1)))
 
 -- What holds of the changed loom by its new place, and of each other by its own, holds of all.
 pub changed-all : (Q : ℕ → Place → Type 0) (place : ℕ → Place) (k : ℕ) (p : Place) → Q k p → ((j : ℕ) → (j ≡ k → ⊥) → Q j (place j)) →

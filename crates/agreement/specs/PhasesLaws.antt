@@ -10,7 +10,7 @@ use lib.Dec.{T, eqb, ltb}
 use lib.ListN.{length}
 use borrow.Author.Tests.{eqb-true, eqb-false, eq-eqb, ne-eqb, ltb-true}
 use Rattle.recording.specs.declared.Seat.{Seat}
-use Rattle.recording.specs.Recording.{operationAt, times, FirstIs, Order, reached, InSet}
+use Rattle.recording.specs.Recording.{operationAt, sideCount, times, FirstIs, Order, reached, InSet}
 use Rattle.loom.specs.declared.Side.{Side}
 use Rattle.loom.specs.declared.Place.{Place}
 use Rattle.loom.specs.declared.Place.the-variants.{Begin, Posted, Looking, Ready, Applied, Bound, Answered}
@@ -23,7 +23,7 @@ use Rattle.agreement.specs.Fitted.{Renders, Fitted}
 use Rattle.agreement.specs.Orders.{order-of-one, order-of-one-more, reached-by-one-more, not-in-one-more, not-itself}
 use Rattle.agreement.specs.Teams.{either, other-other, not-other, same-side, same-as-itself, side-number, start-or-alone, every-loom-appears, decides, one-yields, leads-without}
 use Rattle.agreement.specs.Phases.{Phase, fresh, even, first, Filled, AllFit, Honest, Wins, MayApply, MayLook, MayRead, Stands, Begun, Fresh, Even, First, Phased, Holds}
-use Rattle.agreement.specs.LogLaws.{had-nothing, had-latest, none-applied-by-post, still-applied, cell-kept, register-written, filled-still, honest-post, changed-all}
+use Rattle.agreement.specs.LogLaws.{had-nothing, had-latest, had-still, none-applied-by-post, still-applied, cell-kept, register-written, register-untouched, filled-still, honest-post, honest-application, changed-all}
 
 module _ {next : ℕ → ℕ → ℕ} {looms : List Seat} {start : ℕ} {R : Rules} (given : Fitted next looms start R) where
   -- The invariant with another place for loom k, and nothing else changed.
@@ -200,3 +200,166 @@ module _ {next : ℕ → ℕ → ℕ} {looms : List Seat} {start : ℕ} {R : Rul
           begins
       by-register (suc w) e =
         holds-bound S k (other (sideOf looms k)) known stands begins (λ none. omega (arith, rw leads at e)) leads
+
+  -- Where looms have taken the cell back to the start, a loom of the leading side was first among them.
+  pub leading-first : (X : Side) (us : List ℕ) → Order looms (sideNumber X) us → reached next looms start us ≡ start → X ≡ R .leading
+  leading-first X us order back = by-side (either X (R .leading))
+    where
+      by-side : (X ≡ R .leading) ⊎ (X ≡ other (R .leading)) → X ≡ R .leading
+      by-side (inl e) = e
+      by-side (inr e) = absurd (given .renders .the-yielding (us, (rw e at order), back))
+
+  -- Then the yielding side has one loom.
+  pub alone-at-return : (us : List ℕ) → Order looms (sideNumber (R .leading)) us → reached next looms start us ≡ start → R .yieldsAlone ≡ true
+  alone-at-return us order back = by-clause (start-or-alone given (R .leading))
+    where
+      by-clause : (InSet next looms start (sideNumber (R .leading)) start → ⊥) ⊎ (sideCount (sideNumber (other (R .leading))) looms ≡ 1) →
+        R .yieldsAlone ≡ true
+      by-clause (inl outside) = absurd (outside (us, order, back))
+      by-clause (inr count) = given .renders .the-count .1 count
+
+  -- And no loom of the yielding side is ready: by Lemma 7 they are all among those that applied.
+  pub stands-at-return : (m : Shared) (us : List ℕ) → Order looms (sideNumber (R .leading)) us → reached next looms start us ≡ start →
+    (j : ℕ) (p : Place) → Stands next looms start R (first (R .leading) us) j p → Begun next looms start R m j p → Stands next looms start R even j p
+  stands-at-return m us order back j Begin old begin = tt
+  stands-at-return m us order back j Posted old begin = tt
+  stands-at-return m us order back j Looking old begin = (old .0, old .1, tt)
+  stands-at-return m us order back j Ready old begin = by-side (either (sideOf looms j) (R .leading))
+    where
+      by-side : (sideOf looms j ≡ R .leading) ⊎ (sideOf looms j ≡ other (R .leading)) → sideOf looms j ≡ R .leading
+      by-side (inl e) = e
+      by-side (inr e) =
+        absurd (every-loom-appears given (other (R .leading)) (given .renders .the-yielding) (R .leading) us order back j (begin tt .0) e old)
+  stands-at-return m us order back j Applied old begin = given .renders .the-set start .1 (us, order, back)
+  stands-at-return m us order back j (Bound y) old begin = old
+  stands-at-return m us order back j (Answered y) old begin = old
+
+  -- After an application the machine is in its third phase, or even where the cell is at the start.
+  pub holds-first : (S : State) (X : Side) (us : List ℕ) → First next looms start R X us (S .shared) (S .log) →
+    ((j : ℕ) → Stands next looms start R (first X us) j (S .place j)) → ((j : ℕ) → Begun next looms start R (S .shared) j (S .place j)) →
+    Honest (S .shared) (S .log) → Holds next looms start R S
+  holds-first S X us known stands begins honest = by-test (eqb (S .shared .cell) start) refl
+    where
+      returned : S .shared .cell ≡ start → (Z : Side) → Z ≡ R .leading → First next looms start R Z us (S .shared) (S .log) →
+        ((j : ℕ) → Stands next looms start R (first Z us) j (S .place j)) → Holds next looms start R S
+      returned at-start Z leads known′ stands′ =
+        let known″ : First next looms start R (R .leading) us (S .shared) (S .log) = rw leads at known′ in
+        let stands″ : (j : ℕ) → Stands next looms start R (first (R .leading) us) j (S .place j) = rw leads at stands′ in
+        let back : reached next looms start us ≡ start = sym (known″ .reaches) ∙ at-start in
+        record
+          { phase = even;
+            phased = record { at-start = at-start; led = known″ .led; alone = alone-at-return us (known″ .order) back; fit = known″ .fit };
+            stands = λ j. stands-at-return (S .shared) us (known″ .order) back j (S .place j) (stands″ j) (begins j);
+            begins = begins;
+            honest = honest
+          }
+      by-test : (b : Bool) → eqb (S .shared .cell) start ≡ b → Holds next looms start R S
+      by-test true e =
+        let at-start : S .shared .cell ≡ start = eqb-true (S .shared .cell) start e in
+        returned at-start X (leading-first X us (known .order) (sym (known .reaches) ∙ at-start)) known stands
+      by-test false e =
+        record { phase = first X us; phased = (known, eqb-false (S .shared .cell) start e); stands = stands; begins = begins; honest = honest }
+
+  -- Loom k's application makes it the last of the looms that have applied since the cell was at the start.
+  pub stands-one-more : (phase : Phase) (k : ℕ) (X : Side) (us : List ℕ) → ((j : ℕ) → MayLook next looms start R phase j → times j us ≡ 0) →
+    ((j : ℕ) → MayApply next looms start R phase j → times j us ≡ 0) → ((x : Side) → Wins next looms start R phase x → x ≡ X) →
+    (j : ℕ) → (j ≡ k → ⊥) → (p : Place) → Stands next looms start R phase j p → Stands next looms start R (first X (us ++ (k ∷ []))) j p
+  stands-one-more phase k X us looks′ applies wins j apart Begin old = tt
+  stands-one-more phase k X us looks′ applies wins j apart Posted old = tt
+  stands-one-more phase k X us looks′ applies wins j apart Looking old = (old .0, old .1, not-in-one-more j k us apart (looks′ j (old .2)))
+  stands-one-more phase k X us looks′ applies wins j apart Ready old = not-in-one-more j k us apart (applies j old)
+  stands-one-more phase k X us looks′ applies wins j apart Applied old = tt
+  stands-one-more phase k X us looks′ applies wins j apart (Bound y) old = wins y old
+  stands-one-more phase k X us looks′ applies wins j apart (Answered y) old = wins y old
+
+  pub holds-one-more : (S : State) (k v : ℕ) (known : Holds next looms start R S) → Begun next looms start R (S .shared) k Ready → (X : Side) (us : List ℕ) →
+    S .shared .cell ≡ reached next looms start us → Order looms (sideNumber X) (us ++ (k ∷ [])) → Filled (register (S .shared) X) →
+    AllFit X (S .log) → (NoneApplied (S .log) → sideOf looms k ≡ X) →
+    ((j : ℕ) → MayLook next looms start R (known .phase) j → times j us ≡ 0) → ((j : ℕ) → MayApply next looms start R (known .phase) j → times j us ≡ 0) →
+    ((x : Side) → Wins next looms start R (known .phase) x → x ≡ X) → Holds next looms start R (steppedFrom next looms R k v Ready S)
+  unfolding steppedFrom turned turnOf withPost withSaid
+  holds-one-more S k v known begins X us reaches order led fit oldest looks′ applies wins =
+    holds-first
+      (steppedFrom next looms R k v Ready S)
+      X
+      (us ++ (k ∷ []))
+      (record
+        { reaches = ap (next (operationAt looms k)) reaches ∙ sym (reached-by-one-more next looms start k us);
+          order = order;
+          led = λ none. led (sym (register-untouched (S .shared) cell X) ∙ none);
+          some-applied = λ none. none k (sideOf looms k) (had-latest (applied k (sideOf looms k)) (S .log));
+          fit = (oldest, fit)
+        })
+      (changed-all
+        (Stands next looms start R (first X (us ++ (k ∷ []))))
+        (S .place)
+        k
+        Applied
+        tt
+        (λ j apart. stands-one-more (known .phase) k X us looks′ applies wins j apart (S .place j) (known .stands j)))
+      (λ j t. untouched j (changed-all (Begun next looms start R (S .shared)) (S .place) k Applied begins (λ i apart. known .begins i) j t))
+      (honest-application k (sideOf looms k) (S .shared) cell (S .log) (known .honest))
+    where
+      cell : ℕ
+      cell = next (operationAt looms k) (S .shared .cell)
+      untouched : (j : ℕ) → (j < length looms) × Filled (register (S .shared) (sideOf looms j)) →
+        (j < length looms) × Filled (register (withCell (S .shared) cell) (sideOf looms j))
+      untouched j (here, full) = (here, λ none. full (sym (register-untouched (S .shared) cell (sideOf looms j)) ∙ none))
+
+  pub holds-applied : (S : State) (k v : ℕ) (known : Holds next looms start R S) → Stands next looms start R (known .phase) k Ready →
+    Begun next looms start R (S .shared) k Ready → Holds next looms start R (steppedFrom next looms R k v Ready S)
+  holds-applied S k v known stands begins = by-phase (known .phase) (known .phased) (known .stands) stands
+    where
+      by-phase : (phase : Phase) → Phased next looms start R phase (S .shared) (S .log) → ((j : ℕ) → Stands next looms start R phase j (S .place j)) →
+        Stands next looms start R phase k Ready → Holds next looms start R (steppedFrom next looms R k v Ready S)
+      by-phase fresh known′ all may =
+        holds-one-more
+          S
+          k
+          v
+          (record { phase = fresh; phased = known′; stands = all; begins = known .begins; honest = known .honest })
+          begins
+          (sideOf looms k)
+          []
+          (known′ .at-start)
+          (order-of-one looms (sideNumber (sideOf looms k)) k (begins tt .0) (side-number given k (sideOf looms k) refl))
+          (begins tt .1)
+          (known′ .fit (sideOf looms k))
+          (λ none. refl)
+          (λ j old. refl)
+          (λ j old. refl)
+          (λ x old. absurd old)
+      by-phase even known′ all may =
+        holds-one-more
+          S
+          k
+          v
+          (record { phase = even; phased = known′; stands = all; begins = known .begins; honest = known .honest })
+          begins
+          (R .leading)
+          []
+          (known′ .at-start)
+          (order-of-one looms (sideNumber (R .leading)) k (begins tt .0) (side-number given k (R .leading) may))
+          (known′ .led)
+          (known′ .fit)
+          (λ none. may)
+          (λ j old. refl)
+          (λ j old. refl)
+          (λ x old. old)
+      by-phase (first X us) known′ all may =
+        holds-one-more
+          S
+          k
+          v
+          (record { phase = first X us; phased = known′; stands = all; begins = known .begins; honest = known .honest })
+          begins
+          X
+          us
+          (known′ .0 .reaches)
+          (order-of-one-more looms (sideNumber X) k us (known′ .0 .order) (begins tt .0) may)
+          (known′ .0 .led)
+          (known′ .0 .fit)
+          (λ none. absurd (known′ .0 .some-applied none))
+          (λ j old. old)
+          (λ j old. old)
+          (λ x old. old)
