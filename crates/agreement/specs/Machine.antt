@@ -33,6 +33,13 @@ pub data Act : Type 0 where
   restart : ℕ → Act
   restartAll : Act
 
+-- Every step among the acts brings a number that P allows its loom.
+abbrev pub EachStep : (ℕ → ℕ → Type 0) → List Act → Type 0
+EachStep P [] = Unit {0}
+EachStep P (step k v ∷ acts) = P k v × EachStep P acts
+EachStep P (restart k ∷ acts) = EachStep P acts
+EachStep P (restartAll ∷ acts) = EachStep P acts
+
 -- The memory that the looms share, each loom's place, and the events so far, the latest first.
 pub record State : Type 0 where
   pub shared : Shared

@@ -12,12 +12,13 @@ use borrow.Author.Tests.{eqb-true, eqb-false, eq-eqb, ne-eqb, ltb-true}
 use Rattle.recording.specs.declared.Seat.{Seat}
 use Rattle.recording.specs.Recording.{operationAt, sideCount, times, FirstIs, Order, reached, InSet}
 use Rattle.loom.specs.declared.Side.{Side}
+use Rattle.loom.specs.declared.Side.the-variants.{A, B}
 use Rattle.loom.specs.declared.Place.{Place}
 use Rattle.loom.specs.declared.Place.the-variants.{Begin, Posted, Looking, Ready, Applied, Bound, Answered}
 use Rattle.loom.specs.declared.Shared.{Shared}
 use Rattle.loom.specs.Sides.{sideNumber, other, sameSide, register, withRegister, withCell}
 use Rattle.loom.specs.Turn.{Rules, Turn, turnOf, pickSide, pickPlace, decided, both, looks, afterPosted, afterLooking}
-use Rattle.agreement.specs.Machine.{Event, posted, applied, answered, Act, step, restart, restartAll, State, sideOf, changedAt, withPost, withSaid, turned, pickState, replaced, steppedFrom, stepped, acted, after, opening}
+use Rattle.agreement.specs.Machine.{Event, posted, applied, answered, Act, step, restart, restartAll, EachStep, State, sideOf, changedAt, withPost, withSaid, turned, pickState, replaced, steppedFrom, stepped, acted, after, opening}
 use Rattle.agreement.specs.Agreed.{Had, NoneApplied}
 use Rattle.agreement.specs.Fitted.{Renders, Fitted}
 use Rattle.agreement.specs.Orders.{order-of-one, order-of-one-more, reached-by-one-more, not-in-one-more, not-itself}
@@ -363,3 +364,114 @@ module _ {next : ℕ → ℕ → ℕ} {looms : List Seat} {start : ℕ} {R : Rul
           (λ j old. old)
           (λ j old. old)
           (λ x old. old)
+
+  -- A loom that has applied its operation reads the cell, and decides for the side that is to win.
+  pub stands-read : (phase : Phase) (m : Shared) (log : List Event) → Phased next looms start R phase m log → MayRead next looms start R phase →
+    Wins next looms start R phase (decided R (m .cell))
+  stands-read fresh m log known read = absurd read
+  stands-read even m log known read = rw (known .at-start, read) refl
+  stands-read (first X us) m log known read = decides given X (m .cell) (us, known .0 .order, sym (known .0 .reaches))
+
+  -- An answer with the side that is to win changes no phase.
+  pub phased-answer : (phase : Phase) (m : Shared) (log : List Event) (k : ℕ) (x : Side) → Phased next looms start R phase m log →
+    Wins next looms start R phase x → Honest m log → Phased next looms start R phase m (answered k x (register m x) ∷ log)
+  phased-answer fresh m log k x known wins honest = absurd wins
+  phased-answer even m log k x known wins honest =
+    record
+      { at-start = known .at-start;
+        led = known .led;
+        alone = known .alone;
+        fit = ((wins, honest x (λ none. known .led (rw wins at none))), known .fit)
+      }
+  phased-answer (first X us) m log k x (known, away) wins honest =
+    (record
+      { reaches = known .reaches;
+        order = known .order;
+        led = known .led;
+        some-applied = still-applied (answered k x (register m x)) log (known .some-applied);
+        fit = ((wins, honest x (λ none. known .led (rw wins at none))), known .fit)
+      },
+      away)
+
+  pub holds-answered : (S : State) (k v : ℕ) (x : Side) (known : Holds next looms start R S) → Wins next looms start R (known .phase) x →
+    Begun next looms start R (S .shared) k (Bound x) → Holds next looms start R (steppedFrom next looms R k v (Bound x) S)
+  unfolding steppedFrom turned turnOf withPost withSaid
+  holds-answered S k v x known wins begins =
+    record
+      { phase = known .phase;
+        phased = phased-answer (known .phase) (S .shared) (S .log) k x (known .phased) wins (known .honest);
+        stands = changed-all (Stands next looms start R (known .phase)) (S .place) k (Answered x) wins (λ j apart. known .stands j);
+        begins = changed-all (Begun next looms start R (S .shared)) (S .place) k (Answered x) begins (λ j apart. known .begins j);
+        honest =
+          λ y full.
+            (known .honest y full .0,
+              had-still
+                (posted (known .honest y full .0) y (register (S .shared) y))
+                (answered k x (register (S .shared) x))
+                (S .log)
+                (known .honest y full .1))
+      }
+
+  -- Every step keeps the invariant, from whatever place.
+  pub holds-stepped : (S : State) (k v : ℕ) → k < length looms → Filled v → Holds next looms start R S → Holds next looms start R (stepped next looms R k v S)
+  unfolding stepped steppedFrom turned turnOf withPost withSaid
+  holds-stepped S k v here some known = by-place (S .place k) (known .stands k) (known .begins k)
+    where
+      by-place : (p : Place) → Stands next looms start R (known .phase) k p → Begun next looms start R (S .shared) k p →
+        Holds next looms start R (steppedFrom next looms R k v p S)
+      by-place Begin stands begins = holds-posted S k v here some known
+      by-place Posted stands begins =
+        holds-placed
+          S
+          k
+          (afterPosted R (sideOf looms k) (S .shared .cell))
+          known
+          (stands-posted (known .phase) (S .shared) (S .log) k (known .phased))
+          (λ t. begins tt)
+      by-place Looking stands begins = holds-looked S k v known stands begins
+      by-place Ready stands begins = holds-applied S k v known stands begins
+      by-place Applied stands begins =
+        holds-placed
+          S
+          k
+          (Bound (decided R (S .shared .cell)))
+          known
+          (stands-read (known .phase) (S .shared) (S .log) (known .phased) stands)
+          begins
+      by-place (Bound x) stands begins = holds-answered S k v x known stands begins
+      by-place (Answered x) stands begins = holds-placed S k (Answered x) known stands begins
+
+  -- Every act keeps it, and so does every list of acts. A restarted loom is a loom at the beginning: nothing is asked of it.
+  pub holds-acted : (a : Act) (acts : List Act) (S : State) → EachStep (λ k v. Filled v) (a ∷ acts) → Holds next looms start R S →
+    Holds next looms start R (acted next looms R a S)
+  unfolding acted
+  holds-acted (step k v) acts S filled known = by-test (ltb k (length looms)) refl
+    where
+      by-test : (b : Bool) → ltb k (length looms) ≡ b → Holds next looms start R (pickState b (stepped next looms R k v S) S)
+      by-test true e = holds-stepped S k v (ltb-true k (length looms) e) (filled .0) known
+      by-test false e = known
+  holds-acted (restart k) acts S filled known = holds-placed S k Begin known tt (λ t. absurd t)
+  holds-acted restartAll acts S filled known =
+    record { phase = known .phase; phased = known .phased; stands = λ j. tt; begins = λ j t. absurd t; honest = known .honest }
+
+  pub holds-after : (acts : List Act) (S : State) → EachStep (λ k v. Filled v) acts → Holds next looms start R S →
+    Holds next looms start R (after next looms R acts S)
+  unfolding after
+  holds-after [] S filled known = known
+  holds-after (step k v ∷ acts) S filled known = holds-after acts _ (filled .1) (holds-acted (step k v) acts S filled known)
+  holds-after (restart k ∷ acts) S filled known = holds-after acts _ filled (holds-acted (restart k) acts S filled known)
+  holds-after (restartAll ∷ acts) S filled known = holds-after acts _ filled (holds-acted restartAll acts S filled known)
+
+  pub holds-opening : Holds next looms start R (opening start)
+  holds-opening =
+    record
+      { phase = fresh;
+        phased = record { at-start = refl; unapplied = λ k s had. had-nothing (applied k s) had; fit = λ X. tt };
+        stands = λ j. tt;
+        begins = λ j t. absurd t;
+        honest = nothing
+      }
+    where
+      nothing : Honest (opening start .shared) []
+      nothing A full = absurd (full refl)
+      nothing B full = absurd (full refl)
