@@ -6,3 +6,5 @@ pub mod Teams
 pub mod Phases
 pub mod LogLaws
 pub mod PhasesLaws
+pub mod Told
+pub mod Agreement
