@@ -24,10 +24,10 @@ pub record Settled (log : List Event) : Type 0 where
   pub one-side : (i j : ℕ) (s t : Side) (v w : ℕ) → Had (answered i s v) log → Had (answered j t w) log → s ≡ t
   -- Each answer comes after a post of its number by a loom of its side.
   pub posted-before : (i : ℕ) (s : Side) (v : ℕ) (older : List Event) → Came (answered i s v) older log →
-    (k : ℕ) × Had (posted k s v) older
+      (k : ℕ) × Had (posted k s v) older
   -- The side of every answer, given before or after, is the side of the first loom that applied its operation.
   pub first-applied : (k : ℕ) (s : Side) (older : List Event) → Came (applied k s) older log → NoneApplied older →
-    (i : ℕ) (t : Side) (v : ℕ) → Had (answered i t v) log → t ≡ s
+      (i : ℕ) (t : Side) (v : ℕ) → Had (answered i t v) log → t ≡ s
 
 -- Demand 3. `num s` is the number of side s.
 pub record Agreed (num : Side → ℕ) (log : List Event) : Type 0 where

@@ -17,7 +17,7 @@ use Rattle.agreement.specs.Told.{AllTold, told-of-had, told-after}
 -- Whatever was in the log before is in the log.
 pub had-of-came : (d e : Event) (older log : List Event) → Came e older log → Had d older → Had d log
 had-of-came d e older log (later, same) (oldest, (middle, inside)) =
-  (oldest, (later ++ (e ∷ middle), same ∙ ap (λ l. later ++ (e ∷ l)) inside ∙ sym (append-assoc later (e ∷ middle) (d ∷ oldest))))
+    (oldest, (later ++ (e ∷ middle), same ∙ ap (λ l. later ++ (e ∷ l)) inside ∙ sym (append-assoc later (e ∷ middle) (d ∷ oldest))))
 
 -- The acts are the same acts with less said of their numbers.
 pub each-step-weaker : (P Q : ℕ → ℕ → Type 0) → ((k v : ℕ) → P k v → Q k v) → (acts : List Act) → EachStep P acts → EachStep Q acts
@@ -29,10 +29,10 @@ each-step-weaker P Q weaker (restartAll ∷ acts) all = each-step-weaker P Q wea
 -- A log that fits one side is settled.
 pub settled-by : (X : Side) (log : List Event) → AllFit X log → Settled log
 settled-by X log fit =
-  record
-    { one-side = λ i j s t v w one two. names i s v one ∙ sym (names j t w two);
+    record {
+      one-side = λ i j s t v w one two. names i s v one ∙ sym (names j t w two);
       posted-before = λ i s v older came. fits-at X (answered i s v) older log fit came .1;
-      first-applied = λ k s older came none i t v had. names i t v had ∙ sym (fits-at X (applied k s) older log fit came none)
+      first-applied = λ k s older came none i t v had. names i t v had ∙ sym (fits-at X (applied k s) older log fit came none);
     }
   where
     names : (i : ℕ) (s : Side) (v : ℕ) → Had (answered i s v) log → s ≡ X
@@ -46,29 +46,31 @@ module _ {next : ℕ → ℕ → ℕ} {looms : List Seat} {start : ℕ} {R : Rul
     where
       known : Holds next looms start R (after next looms R acts (opening start))
       known = holds-after given acts (opening start) filled (holds-opening given)
+
       by-phase : (phase : Phase) → Phased next looms start R phase (after next looms R acts (opening start) .shared) (after next looms R acts (opening start) .log) →
-        Settled (after next looms R acts (opening start) .log)
+          Settled (after next looms R acts (opening start) .log)
       by-phase fresh facts = settled-by (R .leading) _ (facts .fit (R .leading))
       by-phase even facts = settled-by (R .leading) _ (facts .fit)
       by-phase (first X us) facts = settled-by X _ (facts .0 .fit)
 
   -- Demand 3. Where each loom posts its side's number, and neither is 0, all answers agree.
   pub agreed : (num : Side → ℕ) → ((s : Side) → Filled (num s)) → (acts : List Act) → EachStep (λ k v. v ≡ num (sideOf looms k)) acts →
-    Agreed num (after next looms R acts (opening start) .log)
+      Agreed num (after next looms R acts (opening start) .log)
   agreed num filled acts numbered = record { settled = won; its-number = its }
     where
       won : Settled (after next looms R acts (opening start) .log)
       won = settled acts (each-step-weaker _ _ (λ k v e none. filled (sideOf looms k) (sym e ∙ none)) acts numbered)
+
       its : (i : ℕ) (s : Side) (v : ℕ) → Had (answered i s v) (after next looms R acts (opening start) .log) → v ≡ num s
       its i s v (older, came) =
-        let post = won .posted-before i s v older came in
-        let told =
+          let post = won .posted-before i s v older came in
+          let told =
           told-of-had
-            (λ k w. w ≡ num (sideOf looms k))
-            looms
-            (posted (post .0) s v)
-            _
-            (told-after next looms R (λ k w. w ≡ num (sideOf looms k)) acts (opening start) numbered tt)
-            (had-of-came (posted (post .0) s v) (answered i s v) older _ came (post .1))
-        in
-        told .2 ∙ ap num (sym (told .1))
+          (λ k w. w ≡ num (sideOf looms k))
+          looms
+          (posted (post .0) s v)
+          _
+          (told-after next looms R (λ k w. w ≡ num (sideOf looms k)) acts (opening start) numbered tt)
+          (had-of-came (posted (post .0) s v) (answered i s v) older _ came (post .1))
+          in
+          told .2 ∙ ap num (sym (told .1))

@@ -84,8 +84,8 @@ honest-post k m s v log old x full = by-side (either x s)
     by-side : (x ≡ s) ⊎ (x ≡ other s) → (j : ℕ) × Had (posted j x (register (withRegister m s v) x)) (posted k s v ∷ log)
     by-side (inl e) = (k, rw (e, register-written m s v) (had-latest (posted k s v) log))
     by-side (inr e) =
-      let was = old (other s) (rw (← register-kept m s v, ← e) full) in
-      (was .0, rw (e, register-kept m s v) (had-still (posted (was .0) (other s) (register m (other s))) (posted k s v) log (was .1)))
+        let was = old (other s) (rw (← register-kept m s v, ← e) full) in
+        (was .0, rw (e, register-kept m s v) (had-still (posted (was .0) (other s) (register m (other s))) (posted k s v) log (was .1)))
 
 -- An application writes the cell, and no register.
 pub register-untouched : (m : Shared) (q : ℕ) (x : Side) → register (withCell m q) x ≡ register m x
@@ -94,12 +94,12 @@ register-untouched m q B = refl
 
 pub honest-application : (k : ℕ) (s : Side) (m : Shared) (q : ℕ) (log : List Event) → Honest m log → Honest (withCell m q) (applied k s ∷ log)
 honest-application k s m q log old x full =
-  let was = old x (rw (register-untouched m q x) at full) in
-  (was .0, rw (register-untouched m q x) (had-still (posted (was .0) x (register m x)) (applied k s) log (was .1)))
+    let was = old x (rw (register-untouched m q x) at full) in
+    (was .0, rw (register-untouched m q x) (had-still (posted (was .0) x (register m x)) (applied k s) log (was .1)))
 
 -- What holds of the changed loom by its new place, and of each other by its own, holds of all.
 pub changed-all : (Q : ℕ → Place → Type 0) (place : ℕ → Place) (k : ℕ) (p : Place) → Q k p → ((j : ℕ) → (j ≡ k → ⊥) → Q j (place j)) →
-  (j : ℕ) → Q j (changedAt place k p j)
+    (j : ℕ) → Q j (changedAt place k p j)
 unfolding changedAt
 changed-all Q place k p new old j = by-test (eqb j k) refl
   where

@@ -73,7 +73,7 @@ withSaid k s (Answer x v) log = answered k x v ∷ log
 -- The state after turn t of loom k, of side s, from place p; v is the number that it would post.
 unfoldable pub turned : ℕ → Side → ℕ → Place → Turn → State → State
 turned k s v p t S =
-  record { shared = t .shared; place = changedAt (S .place) k (t .place); log = withSaid k s (t .said) (withPost k s v p (S .log)) }
+    record { shared = t .shared; place = changedAt (S .place) k (t .place); log = withSaid k s (t .said) (withPost k s v p (S .log)) }
 
 -- The first of two where the test holds, else the second.
 abbrev pub pickState : Bool → State → State → State

@@ -46,20 +46,20 @@ first-of-one-more looms X k (u ∷ us) h = h
 -- One loom alone is an order of its side.
 pub order-of-one : (looms : List Seat) (X k : ℕ) → k < length looms → sideAt looms k ≡ X → Order looms X (k ∷ [])
 order-of-one looms X k here side =
-  record
-    { looms-of-it = λ j past. omega (arith, not-itself j k (λ e. omega arith));
+    record {
+      looms-of-it = λ j past. omega (arith, not-itself j k (λ e. omega arith));
       each-once = λ j. omega (arith, at-most-once (eqb k j));
-      first-of-X = side
+      first-of-X = side;
     }
 
 -- A loom that is not yet in an order may come at its end.
 pub order-of-one-more : (looms : List Seat) (X k : ℕ) (us : List ℕ) → Order looms X us → k < length looms → times k us ≡ 0 →
-  Order looms X (us ++ (k ∷ []))
+    Order looms X (us ++ (k ∷ []))
 order-of-one-more looms X k us order here new =
-  record
-    { looms-of-it = λ j past. not-in-one-more j k us (λ e. omega arith) (order .looms-of-it j past);
+    record {
+      looms-of-it = λ j past. not-in-one-more j k us (λ e. omega arith) (order .looms-of-it j past);
       each-once = λ j. each j (eqb k j) refl;
-      first-of-X = first-of-one-more looms X k us (order .first-of-X)
+      first-of-X = first-of-one-more looms X k us (order .first-of-X);
     }
   where
     each : (j : ℕ) (b : Bool) → eqb k j ≡ b → times j (us ++ (k ∷ [])) ≤ 1
@@ -68,12 +68,13 @@ order-of-one-more looms X k us order here new =
 
 -- An order of X has a loom of X in it.
 pub loom-of-order : (looms : List Seat) (X : ℕ) (us : List ℕ) → Order looms X us →
-  (u : ℕ) × (u < length looms) × (sideAt looms u ≡ X) × (times u us ≡ 0 → ⊥)
+    (u : ℕ) × (u < length looms) × (sideAt looms u ≡ X) × (times u us ≡ 0 → ⊥)
 loom-of-order looms X [] order = absurd (order .first-of-X)
 loom-of-order looms X (u ∷ us) order = (u, by-cases (decLt u (length looms)), order .first-of-X, present)
   where
     present : times u (u ∷ us) ≡ 0 → ⊥
     present none = omega (arith, once-itself u)
+
     by-cases : Dec (u < length looms) → u < length looms
     by-cases (yes here) = here
     by-cases (no past) = absurd (present (order .looms-of-it u (omega arith)))
@@ -86,12 +87,12 @@ some-of-side X (l ∷ looms) (suc k) here side = omega (arith, some-of-side X lo
 
 -- Two looms of a side that has one loom are the same loom.
 pub lone : (X : ℕ) (looms : List Seat) → sideCount X looms ≤ 1 → (i j : ℕ) → i < length looms → j < length looms →
-  sideAt looms i ≡ X → sideAt looms j ≡ X → i ≡ j
+    sideAt looms i ≡ X → sideAt looms j ≡ X → i ≡ j
 lone X [] alone i j hi hj si sj = absurd (not-suc-le-zero hi)
 lone X (l ∷ looms) alone zero zero hi hj si sj = refl
 lone X (l ∷ looms) alone zero (suc j) hi hj si sj =
-  absurd (omega (arith, ap one (eq-eqb (l .side) X si), some-of-side X looms j (le-of-suc-le-suc hj) sj))
+    absurd (omega (arith, ap one (eq-eqb (l .side) X si), some-of-side X looms j (le-of-suc-le-suc hj) sj))
 lone X (l ∷ looms) alone (suc i) zero hi hj si sj =
-  absurd (omega (arith, ap one (eq-eqb (l .side) X sj), some-of-side X looms i (le-of-suc-le-suc hi) si))
+    absurd (omega (arith, ap one (eq-eqb (l .side) X sj), some-of-side X looms i (le-of-suc-le-suc hi) si))
 lone X (l ∷ looms) alone (suc i) (suc j) hi hj si sj =
-  ap suc (lone X looms (omega arith) i j (le-of-suc-le-suc hi) (le-of-suc-le-suc hj) si sj)
+    ap suc (lone X looms (omega arith) i j (le-of-suc-le-suc hi) (le-of-suc-le-suc hj) si sj)

@@ -29,55 +29,56 @@ use Rattle.agreement.specs.LogLaws.{had-nothing, had-latest, had-still, 
 module _ {next : ℕ → ℕ → ℕ} {looms : List Seat} {start : ℕ} {R : Rules} (given : Fitted next looms start R) where
   -- The invariant with another place for loom k, and nothing else changed.
   pub holds-placed : (S : State) (k : ℕ) (p : Place) (known : Holds next looms start R S) → Stands next looms start R (known .phase) k p →
-    Begun next looms start R (S .shared) k p → Holds next looms start R (replaced S (changedAt (S .place) k p))
+      Begun next looms start R (S .shared) k p → Holds next looms start R (replaced S (changedAt (S .place) k p))
   holds-placed S k p known stands begins =
-    record
-      { phase = known .phase;
+      record {
+        phase = known .phase;
         phased = known .phased;
         stands = changed-all (Stands next looms start R (known .phase)) (S .place) k p stands (λ j apart. known .stands j);
         begins = changed-all (Begun next looms start R (S .shared)) (S .place) k p begins (λ j apart. known .begins j);
-        honest = known .honest
+        honest = known .honest;
       }
 
   -- A post changes no phase.
   pub phased-post : (phase : Phase) (m : Shared) (log : List Event) (k : ℕ) (s : Side) (v : ℕ) → Filled v → Phased next looms start R phase m log →
-    Phased next looms start R phase (withRegister m s v) (posted k s v ∷ log)
+      Phased next looms start R phase (withRegister m s v) (posted k s v ∷ log)
   phased-post fresh m log k s v some known =
-    record { at-start = cell-kept m s v ∙ known .at-start; unapplied = none-applied-by-post k s v log (known .unapplied); fit = λ X. (tt, known .fit X) }
+      record { at-start = cell-kept m s v ∙ known .at-start; unapplied = none-applied-by-post k s v log (known .unapplied); fit = λ X. (tt, known .fit X) }
   phased-post even m log k s v some known =
-    record
-      { at-start = cell-kept m s v ∙ known .at-start;
+      record {
+        at-start = cell-kept m s v ∙ known .at-start;
         led = filled-still m s v some (R .leading) (known .led);
         alone = known .alone;
-        fit = (tt, known .fit)
+        fit = (tt, known .fit);
       }
-  phased-post (first X us) m log k s v some (known, away) =
-    (record
-      { reaches = cell-kept m s v ∙ known .reaches;
-        order = known .order;
-        led = filled-still m s v some X (known .led);
-        some-applied = still-applied (posted k s v) log (known .some-applied);
-        fit = (tt, known .fit)
-      },
-      λ back. away (sym (cell-kept m s v) ∙ back))
+  phased-post (first X us) m log k s v some (known, away) = (
+    record {
+      reaches = cell-kept m s v ∙ known .reaches;
+      order = known .order;
+      led = filled-still m s v some X (known .led);
+      some-applied = still-applied (posted k s v) log (known .some-applied);
+      fit = (tt, known .fit);
+    },
+    λ back. away (sym (cell-kept m s v) ∙ back),
+  )
 
   pub holds-posted : (S : State) (k v : ℕ) → k < length looms → Filled v → Holds next looms start R S →
-    Holds next looms start R (steppedFrom next looms R k v Begin S)
+      Holds next looms start R (steppedFrom next looms R k v Begin S)
   unfolding steppedFrom turned turnOf withPost withSaid
   holds-posted S k v here some known =
-    record
-      { phase = known .phase;
+      record {
+        phase = known .phase;
         phased = phased-post (known .phase) (S .shared) (S .log) k (sideOf looms k) v some (known .phased);
         stands = changed-all (Stands next looms start R (known .phase)) (S .place) k Posted tt (λ j apart. known .stands j);
         begins =
-          changed-all
+            changed-all
             (Begun next looms start R (withRegister (S .shared) (sideOf looms k) v))
             (S .place)
             k
             Posted
             (λ t. (here, λ none. some (sym (register-written (S .shared) (sideOf looms k) v) ∙ none)))
             (λ j apart t. (known .begins j t .0, filled-still (S .shared) (sideOf looms k) v some (sideOf looms j) (known .begins j t .1)));
-        honest = honest-post k (S .shared) (sideOf looms k) v (S .log) (known .honest)
+        honest = honest-post k (S .shared) (sideOf looms k) v (S .log) (known .honest);
       }
 
   -- A loom of the yielding side looks, where that side has one loom; and only such a loom.
@@ -94,16 +95,16 @@ module _ {next : ℕ → ℕ → ℕ} {looms : List Seat} {start : ℕ} {R : Rul
       by-side : (s ≡ R .leading) ⊎ (s ≡ other (R .leading)) → s ≡ R .leading
       by-side (inl e) = e
       by-side (inr e) =
-        let seen : sameSide s (other (R .leading)) ≡ true = rw e (same-as-itself (other (R .leading))) in
-        let looking : looks R s ≡ true = rw (alone, seen) refl in
-        absurd (let z : _≡_ {A = ℕ} 0 1 = cc in omega arith)
+          let seen : sameSide s (other (R .leading)) ≡ true = rw e (same-as-itself (other (R .leading))) in
+          let looking : looks R s ≡ true = rw (alone, seen) refl in
+          absurd (let z : _≡_ {A = ℕ} 0 1 = cc in omega arith)
 
   -- From the start a posted loom goes on to look or to be ready.
   pub stands-at-start : (phase : Phase) (k q : ℕ) → q ≡ start → MayLook next looms start R phase k →
-    (looks R (sideOf looms k) ≡ false → MayApply next looms start R phase k) → Stands next looms start R phase k (afterPosted R (sideOf looms k) q)
+      (looks R (sideOf looms k) ≡ false → MayApply next looms start R phase k) → Stands next looms start R phase k (afterPosted R (sideOf looms k) q)
   unfolding afterPosted
   stands-at-start phase k q at-start look apply =
-    rw (eq-eqb q (R .start) (at-start ∙ sym (given .renders .the-start))) (by-test (looks R (sideOf looms k)) refl)
+      rw (eq-eqb q (R .start) (at-start ∙ sym (given .renders .the-start))) (by-test (looks R (sideOf looms k)) refl)
     where
       by-test : (b : Bool) → looks R (sideOf looms k) ≡ b → Stands next looms start R phase k (pickPlace b Looking Ready)
       by-test true e = (looks-yields (sideOf looms k) e .0, looks-yields (sideOf looms k) e .1, look)
@@ -111,23 +112,23 @@ module _ {next : ℕ → ℕ → ℕ} {looms : List Seat} {start : ℕ} {R : Rul
 
   -- What a posted loom reads in the cell leaves it where the phase allows.
   pub stands-posted : (phase : Phase) (m : Shared) (log : List Event) (k : ℕ) → Phased next looms start R phase m log →
-    Stands next looms start R phase k (afterPosted R (sideOf looms k) (m .cell))
+      Stands next looms start R phase k (afterPosted R (sideOf looms k) (m .cell))
   unfolding afterPosted
   stands-posted fresh m log k known = stands-at-start fresh k (m .cell) (known .at-start) tt (λ e. tt)
   stands-posted even m log k known =
-    stands-at-start even k (m .cell) (known .at-start) tt (λ e. not-looking-leads (sideOf looms k) (known .alone) e)
+      stands-at-start even k (m .cell) (known .at-start) tt (λ e. not-looking-leads (sideOf looms k) (known .alone) e)
   stands-posted (first X us) m log k (known, away) =
-    rw
+      rw
       (ne-eqb (m .cell) (R .start) (λ e. away (e ∙ given .renders .the-start)))
       (decides given X (m .cell) (us, known .order, sym (known .reaches)))
 
   -- In a fresh machine the yielding loom yields: from now on the leading side wins. No other loom of its side is there to be ready.
   pub holds-yielding : (S : State) (k : ℕ) → k < length looms → sideOf looms k ≡ other (R .leading) → R .yieldsAlone ≡ true →
-    Filled (register (S .shared) (R .leading)) → Fresh next looms start R (S .shared) (S .log) →
-    ((j : ℕ) → Stands next looms start R fresh j (S .place j)) → ((j : ℕ) → Begun next looms start R (S .shared) j (S .place j)) →
-    (x : Side) → x ≡ R .leading → (j : ℕ) → Stands next looms start R even j (changedAt (S .place) k (Bound x) j)
+      Filled (register (S .shared) (R .leading)) → Fresh next looms start R (S .shared) (S .log) →
+      ((j : ℕ) → Stands next looms start R fresh j (S .place j)) → ((j : ℕ) → Begun next looms start R (S .shared) j (S .place j)) →
+      (x : Side) → x ≡ R .leading → (j : ℕ) → Stands next looms start R even j (changedAt (S .place) k (Bound x) j)
   holds-yielding S k here yields alone led known stands begins x wins =
-    changed-all (Stands next looms start R even) (S .place) k (Bound x) wins (λ j apart. others j apart (S .place j) (stands j) (begins j))
+      changed-all (Stands next looms start R even) (S .place) k (Bound x) wins (λ j apart. others j apart (S .place j) (stands j) (begins j))
     where
       leads : (j : ℕ) → (j ≡ k → ⊥) → j < length looms → sideOf looms j ≡ R .leading
       leads j apart there = by-side (either (sideOf looms j) (R .leading))
@@ -135,8 +136,9 @@ module _ {next : ℕ → ℕ → ℕ} {looms : List Seat} {start : ℕ} {R : Rul
           by-side : (sideOf looms j ≡ R .leading) ⊎ (sideOf looms j ≡ other (R .leading)) → sideOf looms j ≡ R .leading
           by-side (inl e) = e
           by-side (inr e) = absurd (apart (one-yields given j k alone there here e yields))
+
       others : (j : ℕ) → (j ≡ k → ⊥) → (p : Place) → Stands next looms start R fresh j p → Begun next looms start R (S .shared) j p →
-        Stands next looms start R even j p
+          Stands next looms start R even j p
       others j apart Begin old begin = tt
       others j apart Posted old begin = tt
       others j apart Looking old begin = (old .0, old .1, tt)
@@ -151,30 +153,30 @@ module _ {next : ℕ → ℕ → ℕ} {looms : List Seat} {start : ℕ} {R : Rul
 
   -- A loom that finds the leading register empty is ready; one that finds a number is bound to the leading side.
   pub stands-unposted : (phase : Phase) (m : Shared) (log : List Event) (k : ℕ) → Phased next looms start R phase m log →
-    register m (R .leading) ≡ 0 → MayLook next looms start R phase k → MayApply next looms start R phase k
+      register m (R .leading) ≡ 0 → MayLook next looms start R phase k → MayApply next looms start R phase k
   stands-unposted fresh m log k known empty look = tt
   stands-unposted even m log k known empty look = absurd (known .led empty)
   stands-unposted (first X us) m log k known empty look = look
 
   pub holds-bound : (S : State) (k : ℕ) (x : Side) (known : Holds next looms start R S) → Stands next looms start R (known .phase) k Looking →
-    Begun next looms start R (S .shared) k (Bound x) → Filled (register (S .shared) (R .leading)) → x ≡ R .leading →
-    Holds next looms start R (replaced S (changedAt (S .place) k (Bound x)))
+      Begun next looms start R (S .shared) k (Bound x) → Filled (register (S .shared) (R .leading)) → x ≡ R .leading →
+      Holds next looms start R (replaced S (changedAt (S .place) k (Bound x)))
   holds-bound S k x known stands begins led leads = by-phase (known .phase) (known .phased) (known .stands) stands
     where
       by-phase : (phase : Phase) → Phased next looms start R phase (S .shared) (S .log) → ((j : ℕ) → Stands next looms start R phase j (S .place j)) →
-        Stands next looms start R phase k Looking → Holds next looms start R (replaced S (changedAt (S .place) k (Bound x)))
+          Stands next looms start R phase k Looking → Holds next looms start R (replaced S (changedAt (S .place) k (Bound x)))
       by-phase fresh known′ all here =
-        record
-          { phase = even;
+          record {
+            phase = even;
             phased = record { at-start = known′ .at-start; led = led; alone = here .1; fit = known′ .fit (R .leading) };
             stands = holds-yielding S k (begins tt .0) (here .0) (here .1) led known′ all (known .begins) x leads;
             begins = changed-all (Begun next looms start R (S .shared)) (S .place) k (Bound x) begins (λ j apart. known .begins j);
-            honest = known .honest
+            honest = known .honest;
           }
       by-phase even known′ all here =
-        holds-placed S k (Bound x) (record { phase = even; phased = known′; stands = all; begins = known .begins; honest = known .honest }) leads begins
+          holds-placed S k (Bound x) (record { phase = even; phased = known′; stands = all; begins = known .begins; honest = known .honest }) leads begins
       by-phase (first X us) known′ all here =
-        holds-placed
+          holds-placed
           S
           k
           (Bound x)
@@ -183,16 +185,17 @@ module _ {next : ℕ → ℕ → ℕ} {looms : List Seat} {start : ℕ} {R : Rul
           begins
 
   pub holds-looked : (S : State) (k v : ℕ) (known : Holds next looms start R S) → Stands next looms start R (known .phase) k Looking →
-    Begun next looms start R (S .shared) k Looking → Holds next looms start R (steppedFrom next looms R k v Looking S)
+      Begun next looms start R (S .shared) k Looking → Holds next looms start R (steppedFrom next looms R k v Looking S)
   unfolding steppedFrom turned turnOf afterLooking withPost withSaid
   holds-looked S k v known stands begins = by-register (register (S .shared) (other (sideOf looms k))) refl
     where
       leads : other (sideOf looms k) ≡ R .leading
       leads = looks-at-leading (sideOf looms k) (stands .0)
+
       by-register : (w : ℕ) → register (S .shared) (other (sideOf looms k)) ≡ w →
-        Holds next looms start R (replaced S (changedAt (S .place) k (afterLooking (sideOf looms k) w)))
+          Holds next looms start R (replaced S (changedAt (S .place) k (afterLooking (sideOf looms k) w)))
       by-register zero e =
-        holds-placed
+          holds-placed
           S
           k
           Ready
@@ -200,7 +203,7 @@ module _ {next : ℕ → ℕ → ℕ} {looms : List Seat} {start : ℕ} {R : Rul
           (stands-unposted (known .phase) (S .shared) (S .log) k (known .phased) (rw leads at e) (stands .2))
           begins
       by-register (suc w) e =
-        holds-bound S k (other (sideOf looms k)) known stands begins (λ none. omega (arith, rw leads at e)) leads
+          holds-bound S k (other (sideOf looms k)) known stands begins (λ none. omega (arith, rw leads at e)) leads
 
   -- Where looms have taken the cell back to the start, a loom of the leading side was first among them.
   pub leading-first : (X : Side) (us : List ℕ) → Order looms (sideNumber X) us → reached next looms start us ≡ start → X ≡ R .leading
@@ -215,13 +218,13 @@ module _ {next : ℕ → ℕ → ℕ} {looms : List Seat} {start : ℕ} {R : Rul
   alone-at-return us order back = by-clause (start-or-alone given (R .leading))
     where
       by-clause : (InSet next looms start (sideNumber (R .leading)) start → ⊥) ⊎ (sideCount (sideNumber (other (R .leading))) looms ≡ 1) →
-        R .yieldsAlone ≡ true
+          R .yieldsAlone ≡ true
       by-clause (inl outside) = absurd (outside (us, order, back))
       by-clause (inr count) = given .renders .the-count .1 count
 
   -- And no loom of the yielding side is ready: by Lemma 7 they are all among those that applied.
   pub stands-at-return : (m : Shared) (us : List ℕ) → Order looms (sideNumber (R .leading)) us → reached next looms start us ≡ start →
-    (j : ℕ) (p : Place) → Stands next looms start R (first (R .leading) us) j p → Begun next looms start R m j p → Stands next looms start R even j p
+      (j : ℕ) (p : Place) → Stands next looms start R (first (R .leading) us) j p → Begun next looms start R m j p → Stands next looms start R even j p
   stands-at-return m us order back j Begin old begin = tt
   stands-at-return m us order back j Posted old begin = tt
   stands-at-return m us order back j Looking old begin = (old .0, old .1, tt)
@@ -230,41 +233,42 @@ module _ {next : ℕ → ℕ → ℕ} {looms : List Seat} {start : ℕ} {R : Rul
       by-side : (sideOf looms j ≡ R .leading) ⊎ (sideOf looms j ≡ other (R .leading)) → sideOf looms j ≡ R .leading
       by-side (inl e) = e
       by-side (inr e) =
-        absurd (every-loom-appears given (other (R .leading)) (given .renders .the-yielding) (R .leading) us order back j (begin tt .0) e old)
+          absurd (every-loom-appears given (other (R .leading)) (given .renders .the-yielding) (R .leading) us order back j (begin tt .0) e old)
   stands-at-return m us order back j Applied old begin = given .renders .the-set start .1 (us, order, back)
   stands-at-return m us order back j (Bound y) old begin = old
   stands-at-return m us order back j (Answered y) old begin = old
 
   -- After an application the machine is in its third phase, or even where the cell is at the start.
   pub holds-first : (S : State) (X : Side) (us : List ℕ) → First next looms start R X us (S .shared) (S .log) →
-    ((j : ℕ) → Stands next looms start R (first X us) j (S .place j)) → ((j : ℕ) → Begun next looms start R (S .shared) j (S .place j)) →
-    Honest (S .shared) (S .log) → Holds next looms start R S
+      ((j : ℕ) → Stands next looms start R (first X us) j (S .place j)) → ((j : ℕ) → Begun next looms start R (S .shared) j (S .place j)) →
+      Honest (S .shared) (S .log) → Holds next looms start R S
   holds-first S X us known stands begins honest = by-test (eqb (S .shared .cell) start) refl
     where
       returned : S .shared .cell ≡ start → (Z : Side) → Z ≡ R .leading → First next looms start R Z us (S .shared) (S .log) →
-        ((j : ℕ) → Stands next looms start R (first Z us) j (S .place j)) → Holds next looms start R S
+          ((j : ℕ) → Stands next looms start R (first Z us) j (S .place j)) → Holds next looms start R S
       returned at-start Z leads known′ stands′ =
-        let known″ : First next looms start R (R .leading) us (S .shared) (S .log) = rw leads at known′ in
-        let stands″ : (j : ℕ) → Stands next looms start R (first (R .leading) us) j (S .place j) = rw leads at stands′ in
-        let back : reached next looms start us ≡ start = sym (known″ .reaches) ∙ at-start in
-        record
-          { phase = even;
+          let known″ : First next looms start R (R .leading) us (S .shared) (S .log) = rw leads at known′ in
+          let stands″ : (j : ℕ) → Stands next looms start R (first (R .leading) us) j (S .place j) = rw leads at stands′ in
+          let back : reached next looms start us ≡ start = sym (known″ .reaches) ∙ at-start in
+          record {
+            phase = even;
             phased = record { at-start = at-start; led = known″ .led; alone = alone-at-return us (known″ .order) back; fit = known″ .fit };
             stands = λ j. stands-at-return (S .shared) us (known″ .order) back j (S .place j) (stands″ j) (begins j);
             begins = begins;
-            honest = honest
+            honest = honest;
           }
+
       by-test : (b : Bool) → eqb (S .shared .cell) start ≡ b → Holds next looms start R S
       by-test true e =
-        let at-start : S .shared .cell ≡ start = eqb-true (S .shared .cell) start e in
-        returned at-start X (leading-first X us (known .order) (sym (known .reaches) ∙ at-start)) known stands
+          let at-start : S .shared .cell ≡ start = eqb-true (S .shared .cell) start e in
+          returned at-start X (leading-first X us (known .order) (sym (known .reaches) ∙ at-start)) known stands
       by-test false e =
-        record { phase = first X us; phased = (known, eqb-false (S .shared .cell) start e); stands = stands; begins = begins; honest = honest }
+          record { phase = first X us; phased = (known, eqb-false (S .shared .cell) start e); stands = stands; begins = begins; honest = honest }
 
   -- Loom k's application makes it the last of the looms that have applied since the cell was at the start.
   pub stands-one-more : (phase : Phase) (k : ℕ) (X : Side) (us : List ℕ) → ((j : ℕ) → MayLook next looms start R phase j → times j us ≡ 0) →
-    ((j : ℕ) → MayApply next looms start R phase j → times j us ≡ 0) → ((x : Side) → Wins next looms start R phase x → x ≡ X) →
-    (j : ℕ) → (j ≡ k → ⊥) → (p : Place) → Stands next looms start R phase j p → Stands next looms start R (first X (us ++ (k ∷ []))) j p
+      ((j : ℕ) → MayApply next looms start R phase j → times j us ≡ 0) → ((x : Side) → Wins next looms start R phase x → x ≡ X) →
+      (j : ℕ) → (j ≡ k → ⊥) → (p : Place) → Stands next looms start R phase j p → Stands next looms start R (first X (us ++ (k ∷ []))) j p
   stands-one-more phase k X us looks′ applies wins j apart Begin old = tt
   stands-one-more phase k X us looks′ applies wins j apart Posted old = tt
   stands-one-more phase k X us looks′ applies wins j apart Looking old = (old .0, old .1, not-in-one-more j k us apart (looks′ j (old .2)))
@@ -274,47 +278,48 @@ module _ {next : ℕ → ℕ → ℕ} {looms : List Seat} {start : ℕ} {R : Rul
   stands-one-more phase k X us looks′ applies wins j apart (Answered y) old = wins y old
 
   pub holds-one-more : (S : State) (k v : ℕ) (known : Holds next looms start R S) → Begun next looms start R (S .shared) k Ready → (X : Side) (us : List ℕ) →
-    S .shared .cell ≡ reached next looms start us → Order looms (sideNumber X) (us ++ (k ∷ [])) → Filled (register (S .shared) X) →
-    AllFit X (S .log) → (NoneApplied (S .log) → sideOf looms k ≡ X) →
-    ((j : ℕ) → MayLook next looms start R (known .phase) j → times j us ≡ 0) → ((j : ℕ) → MayApply next looms start R (known .phase) j → times j us ≡ 0) →
-    ((x : Side) → Wins next looms start R (known .phase) x → x ≡ X) → Holds next looms start R (steppedFrom next looms R k v Ready S)
+      S .shared .cell ≡ reached next looms start us → Order looms (sideNumber X) (us ++ (k ∷ [])) → Filled (register (S .shared) X) →
+      AllFit X (S .log) → (NoneApplied (S .log) → sideOf looms k ≡ X) →
+      ((j : ℕ) → MayLook next looms start R (known .phase) j → times j us ≡ 0) → ((j : ℕ) → MayApply next looms start R (known .phase) j → times j us ≡ 0) →
+      ((x : Side) → Wins next looms start R (known .phase) x → x ≡ X) → Holds next looms start R (steppedFrom next looms R k v Ready S)
   unfolding steppedFrom turned turnOf withPost withSaid
   holds-one-more S k v known begins X us reaches order led fit oldest looks′ applies wins =
-    holds-first
+      holds-first
       (steppedFrom next looms R k v Ready S)
       X
       (us ++ (k ∷ []))
-      (record
-        { reaches = ap (next (operationAt looms k)) reaches ∙ sym (reached-by-one-more next looms start k us);
-          order = order;
-          led = λ none. led (sym (register-untouched (S .shared) cell X) ∙ none);
-          some-applied = λ none. none k (sideOf looms k) (had-latest (applied k (sideOf looms k)) (S .log));
-          fit = (oldest, fit)
-        })
+      (record {
+        reaches = ap (next (operationAt looms k)) reaches ∙ sym (reached-by-one-more next looms start k us);
+        order = order;
+        led = λ none. led (sym (register-untouched (S .shared) cell X) ∙ none);
+        some-applied = λ none. none k (sideOf looms k) (had-latest (applied k (sideOf looms k)) (S .log));
+        fit = (oldest, fit);
+      })
       (changed-all
-        (Stands next looms start R (first X (us ++ (k ∷ []))))
-        (S .place)
-        k
-        Applied
-        tt
-        (λ j apart. stands-one-more (known .phase) k X us looks′ applies wins j apart (S .place j) (known .stands j)))
+      (Stands next looms start R (first X (us ++ (k ∷ []))))
+      (S .place)
+      k
+      Applied
+      tt
+      (λ j apart. stands-one-more (known .phase) k X us looks′ applies wins j apart (S .place j) (known .stands j)))
       (λ j t. untouched j (changed-all (Begun next looms start R (S .shared)) (S .place) k Applied begins (λ i apart. known .begins i) j t))
       (honest-application k (sideOf looms k) (S .shared) cell (S .log) (known .honest))
     where
       cell : ℕ
       cell = next (operationAt looms k) (S .shared .cell)
+
       untouched : (j : ℕ) → (j < length looms) × Filled (register (S .shared) (sideOf looms j)) →
-        (j < length looms) × Filled (register (withCell (S .shared) cell) (sideOf looms j))
+          (j < length looms) × Filled (register (withCell (S .shared) cell) (sideOf looms j))
       untouched j (here, full) = (here, λ none. full (sym (register-untouched (S .shared) cell (sideOf looms j)) ∙ none))
 
   pub holds-applied : (S : State) (k v : ℕ) (known : Holds next looms start R S) → Stands next looms start R (known .phase) k Ready →
-    Begun next looms start R (S .shared) k Ready → Holds next looms start R (steppedFrom next looms R k v Ready S)
+      Begun next looms start R (S .shared) k Ready → Holds next looms start R (steppedFrom next looms R k v Ready S)
   holds-applied S k v known stands begins = by-phase (known .phase) (known .phased) (known .stands) stands
     where
       by-phase : (phase : Phase) → Phased next looms start R phase (S .shared) (S .log) → ((j : ℕ) → Stands next looms start R phase j (S .place j)) →
-        Stands next looms start R phase k Ready → Holds next looms start R (steppedFrom next looms R k v Ready S)
+          Stands next looms start R phase k Ready → Holds next looms start R (steppedFrom next looms R k v Ready S)
       by-phase fresh known′ all may =
-        holds-one-more
+          holds-one-more
           S
           k
           v
@@ -331,7 +336,7 @@ module _ {next : ℕ → ℕ → ℕ} {looms : List Seat} {start : ℕ} {R : Rul
           (λ j old. refl)
           (λ x old. absurd old)
       by-phase even known′ all may =
-        holds-one-more
+          holds-one-more
           S
           k
           v
@@ -348,7 +353,7 @@ module _ {next : ℕ → ℕ → ℕ} {looms : List Seat} {start : ℕ} {R : Rul
           (λ j old. refl)
           (λ x old. old)
       by-phase (first X us) known′ all may =
-        holds-one-more
+          holds-one-more
           S
           k
           v
@@ -367,49 +372,51 @@ module _ {next : ℕ → ℕ → ℕ} {looms : List Seat} {start : ℕ} {R : Rul
 
   -- A loom that has applied its operation reads the cell, and decides for the side that is to win.
   pub stands-read : (phase : Phase) (m : Shared) (log : List Event) → Phased next looms start R phase m log → MayRead next looms start R phase →
-    Wins next looms start R phase (decided R (m .cell))
+      Wins next looms start R phase (decided R (m .cell))
   stands-read fresh m log known read = absurd read
   stands-read even m log known read = rw (known .at-start, read) refl
   stands-read (first X us) m log known read = decides given X (m .cell) (us, known .0 .order, sym (known .0 .reaches))
 
   -- An answer with the side that is to win changes no phase.
   pub phased-answer : (phase : Phase) (m : Shared) (log : List Event) (k : ℕ) (x : Side) → Phased next looms start R phase m log →
-    Wins next looms start R phase x → Honest m log → Phased next looms start R phase m (answered k x (register m x) ∷ log)
+      Wins next looms start R phase x → Honest m log → Phased next looms start R phase m (answered k x (register m x) ∷ log)
   phased-answer fresh m log k x known wins honest = absurd wins
   phased-answer even m log k x known wins honest =
-    record
-      { at-start = known .at-start;
+      record {
+        at-start = known .at-start;
         led = known .led;
         alone = known .alone;
-        fit = ((wins, honest x (λ none. known .led (rw wins at none))), known .fit)
+        fit = ((wins, honest x (λ none. known .led (rw wins at none))), known .fit);
       }
-  phased-answer (first X us) m log k x (known, away) wins honest =
-    (record
-      { reaches = known .reaches;
-        order = known .order;
-        led = known .led;
-        some-applied = still-applied (answered k x (register m x)) log (known .some-applied);
-        fit = ((wins, honest x (λ none. known .led (rw wins at none))), known .fit)
-      },
-      away)
+  phased-answer (first X us) m log k x (known, away) wins honest = (
+    record {
+      reaches = known .reaches;
+      order = known .order;
+      led = known .led;
+      some-applied = still-applied (answered k x (register m x)) log (known .some-applied);
+      fit = ((wins, honest x (λ none. known .led (rw wins at none))), known .fit);
+    },
+    away,
+  )
 
   pub holds-answered : (S : State) (k v : ℕ) (x : Side) (known : Holds next looms start R S) → Wins next looms start R (known .phase) x →
-    Begun next looms start R (S .shared) k (Bound x) → Holds next looms start R (steppedFrom next looms R k v (Bound x) S)
+      Begun next looms start R (S .shared) k (Bound x) → Holds next looms start R (steppedFrom next looms R k v (Bound x) S)
   unfolding steppedFrom turned turnOf withPost withSaid
   holds-answered S k v x known wins begins =
-    record
-      { phase = known .phase;
+      record {
+        phase = known .phase;
         phased = phased-answer (known .phase) (S .shared) (S .log) k x (known .phased) wins (known .honest);
         stands = changed-all (Stands next looms start R (known .phase)) (S .place) k (Answered x) wins (λ j apart. known .stands j);
         begins = changed-all (Begun next looms start R (S .shared)) (S .place) k (Answered x) begins (λ j apart. known .begins j);
         honest =
-          λ y full.
-            (known .honest y full .0,
+            λ y full. (
+              known .honest y full .0,
               had-still
-                (posted (known .honest y full .0) y (register (S .shared) y))
-                (answered k x (register (S .shared) x))
-                (S .log)
-                (known .honest y full .1))
+                  (posted (known .honest y full .0) y (register (S .shared) y))
+                  (answered k x (register (S .shared) x))
+                  (S .log)
+                  (known .honest y full .1),
+            );
       }
 
   -- Every step keeps the invariant, from whatever place.
@@ -418,10 +425,10 @@ module _ {next : ℕ → ℕ → ℕ} {looms : List Seat} {start : ℕ} {R : Rul
   holds-stepped S k v here some known = by-place (S .place k) (known .stands k) (known .begins k)
     where
       by-place : (p : Place) → Stands next looms start R (known .phase) k p → Begun next looms start R (S .shared) k p →
-        Holds next looms start R (steppedFrom next looms R k v p S)
+          Holds next looms start R (steppedFrom next looms R k v p S)
       by-place Begin stands begins = holds-posted S k v here some known
       by-place Posted stands begins =
-        holds-placed
+          holds-placed
           S
           k
           (afterPosted R (sideOf looms k) (S .shared .cell))
@@ -431,7 +438,7 @@ module _ {next : ℕ → ℕ → ℕ} {looms : List Seat} {start : ℕ} {R : Rul
       by-place Looking stands begins = holds-looked S k v known stands begins
       by-place Ready stands begins = holds-applied S k v known stands begins
       by-place Applied stands begins =
-        holds-placed
+          holds-placed
           S
           k
           (Bound (decided R (S .shared .cell)))
@@ -443,7 +450,7 @@ module _ {next : ℕ → ℕ → ℕ} {looms : List Seat} {start : ℕ} {R : Rul
 
   -- Every act keeps it, and so does every list of acts. A restarted loom is a loom at the beginning: nothing is asked of it.
   pub holds-acted : (a : Act) (acts : List Act) (S : State) → EachStep (λ k v. Filled v) (a ∷ acts) → Holds next looms start R S →
-    Holds next looms start R (acted next looms R a S)
+      Holds next looms start R (acted next looms R a S)
   unfolding acted
   holds-acted (step k v) acts S filled known = by-test (ltb k (length looms)) refl
     where
@@ -452,10 +459,10 @@ module _ {next : ℕ → ℕ → ℕ} {looms : List Seat} {start : ℕ} {R : Rul
       by-test false e = known
   holds-acted (restart k) acts S filled known = holds-placed S k Begin known tt (λ t. absurd t)
   holds-acted restartAll acts S filled known =
-    record { phase = known .phase; phased = known .phased; stands = λ j. tt; begins = λ j t. absurd t; honest = known .honest }
+      record { phase = known .phase; phased = known .phased; stands = λ j. tt; begins = λ j t. absurd t; honest = known .honest }
 
   pub holds-after : (acts : List Act) (S : State) → EachStep (λ k v. Filled v) acts → Holds next looms start R S →
-    Holds next looms start R (after next looms R acts S)
+      Holds next looms start R (after next looms R acts S)
   unfolding after
   holds-after [] S filled known = known
   holds-after (step k v ∷ acts) S filled known = holds-after acts _ (filled .1) (holds-acted (step k v) acts S filled known)
@@ -464,12 +471,12 @@ module _ {next : ℕ → ℕ → ℕ} {looms : List Seat} {start : ℕ} {R : Rul
 
   pub holds-opening : Holds next looms start R (opening start)
   holds-opening =
-    record
-      { phase = fresh;
+      record {
+        phase = fresh;
         phased = record { at-start = refl; unapplied = λ k s had. had-nothing (applied k s) had; fit = λ X. tt };
         stands = λ j. tt;
         begins = λ j t. absurd t;
-        honest = nothing
+        honest = nothing;
       }
     where
       nothing : Honest (opening start .shared) []

@@ -37,7 +37,7 @@ told-of-had P looms e log all (older, (later, same)) = within later (rw same at 
 
 module _ (next : ℕ → ℕ → ℕ) (looms : List Seat) (R : Rules) (P : ℕ → ℕ → Type 0) where
   pub told-stepped : (S : State) (k v : ℕ) (p : Place) → k < length looms → P k v → AllTold P looms (S .log) →
-    AllTold P looms (steppedFrom next looms R k v p S .log)
+      AllTold P looms (steppedFrom next looms R k v p S .log)
   unfolding steppedFrom turned turnOf withPost withSaid
   told-stepped S k v Begin here allowed all = ((here, refl, allowed), all)
   told-stepped S k v Posted here allowed all = all
