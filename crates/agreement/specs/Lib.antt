@@ -8,3 +8,7 @@ pub mod LogLaws
 pub mod PhasesLaws
 pub mod Told
 pub mod Agreement
+pub mod MachineLaws
+pub mod Steps
+pub mod StepsLaws
+pub mod SixSteps

@@ -1,0 +1,58 @@
+-- Where a loom stands after an act.
+-- Assumes nothing.
+use Prim.Native.Nat.{ℕ, _≤_, _<_}
+use mathlib.Core.Path.{_≡_, refl}
+use mathlib.Core.Bool.{Bool, true, false}
+use mathlib.Core.List.{List}
+use lib.Dec.{eqb, ltb}
+use lib.ListN.{length}
+use borrow.Author.Tests.{eq-eqb, ne-eqb, lt-ltb, le-ltb}
+use Rattle.recording.specs.declared.Seat.{Seat}
+use Rattle.recording.specs.Recording.{operationAt}
+use Rattle.loom.specs.declared.Place.{Place}
+use Rattle.loom.specs.declared.Place.the-variants.{Begin}
+use Rattle.loom.specs.Turn.{Rules, turnOf, pickPlace}
+use Rattle.agreement.specs.Machine.{Act, step, restart, restartAll, State, sideOf, changedAt, turned, pickState, replaced, steppedFrom, stepped, acted}
+
+-- The changed loom is at its new place, and every other where it was.
+pub changed-itself : (place : ℕ → Place) (k : ℕ) (p : Place) → changedAt place k p k ≡ p
+unfolding changedAt
+changed-itself place k p = rw (eq-eqb k k refl)
+
+pub changed-other : (place : ℕ → Place) (k : ℕ) (p : Place) (j : ℕ) → (j ≡ k → ⊥) → changedAt place k p j ≡ place j
+unfolding changedAt
+changed-other place k p j apart = rw (ne-eqb j k apart)
+
+module _ (next : ℕ → ℕ → ℕ) (looms : List Seat) (R : Rules) where
+  -- A step of no loom of the group changes nothing.
+  pub stepped-no-loom : (S : State) (k v : ℕ) → length looms ≤ k → acted next looms R (step k v) S ≡ S
+  unfolding acted
+  stepped-no-loom S k v past = rw (le-ltb k (length looms) past)
+
+  pub stepped-loom : (S : State) (k v : ℕ) → k < length looms → acted next looms R (step k v) S ≡ stepped next looms R k v S
+  unfolding acted
+  stepped-loom S k v here = rw (lt-ltb k (length looms) here)
+
+  -- A loom that steps goes where its turn leads.
+  pub place-stepped : (S : State) (k v : ℕ) → k < length looms →
+      acted next looms R (step k v) S .place k ≡ turnOf R (sideOf looms k) v (next (operationAt looms k)) (S .shared) (S .place k) .place
+  unfolding stepped steppedFrom turned
+  place-stepped S k v here = rw (stepped-loom S k v here) (changed-itself (S .place) k _)
+
+  -- No other moves.
+  pub place-unstepped : (S : State) (j v k : ℕ) → (k ≡ j → ⊥) → acted next looms R (step j v) S .place k ≡ S .place k
+  unfolding acted stepped steppedFrom turned
+  place-unstepped S j v k apart = by-test (ltb j (length looms))
+    where
+      by-test : (b : Bool) → pickState b (stepped next looms R j v S) S .place k ≡ S .place k
+      by-test true = changed-other (S .place) j _ k apart
+      by-test false = refl
+
+  -- A restarted loom is at begin, and every other where it was.
+  pub place-restarted : (S : State) (k : ℕ) → acted next looms R (restart k) S .place k ≡ Begin
+  unfolding acted
+  place-restarted S k = changed-itself (S .place) k Begin
+
+  pub place-unrestarted : (S : State) (j k : ℕ) → (k ≡ j → ⊥) → acted next looms R (restart j) S .place k ≡ S .place k
+  unfolding acted
+  place-unrestarted S j k apart = changed-other (S .place) j Begin k apart
