@@ -3,17 +3,15 @@
 use Prim.Native.Nat.{ℕ}
 use native.Mathlib.Omega.{arith}
 use mathlib.Core.Path.{_≡_, refl, ap, sym, _∙_}
-use mathlib.Core.Bool.{Bool, true, false}
+use mathlib.Core.Bool.{Bool, true, false, cond}
 use mathlib.Core.Logic.{_⊎_, inl, inr}
 use mathlib.Core.List.{List, [], _∷_, _++_}
 use lib.Dec.{eqb}
 use borrow.Author.Tests.{eqb-true, eqb-false}
 use Rattle.loom.specs.declared.Side.{Side}
 use Rattle.loom.specs.declared.Side.the-variants.{A, B}
-use Rattle.loom.specs.declared.Place.{Place}
 use Rattle.loom.specs.declared.Shared.{Shared}
 use Rattle.loom.specs.Sides.{other, register, withRegister, withCell}
-use Rattle.loom.specs.Turn.{pickPlace}
 use Rattle.agreement.specs.Machine.{Event, posted, applied, answered, changedAt}
 use Rattle.agreement.specs.Agreed.{Came, Had, NoneApplied}
 use Rattle.agreement.specs.Teams.{either}
@@ -97,12 +95,12 @@ honest-application k s m q log old x full =
     let was = old x (rw (register-untouched m q x) at full) in
     (was .0, rw (register-untouched m q x) (had-still (posted (was .0) x (register m x)) (applied k s) log (was .1)))
 
--- What holds of the changed loom by its new place, and of each other by its own, holds of all.
-pub changed-all : (Q : ℕ → Place → Type 0) (place : ℕ → Place) (k : ℕ) (p : Place) → Q k p → ((j : ℕ) → (j ≡ k → ⊥) → Q j (place j)) →
-    (j : ℕ) → Q j (changedAt place k p j)
+-- What holds of the changed one by its new value, and of each other by its own, holds of all.
+pub changed-all : {A : Type 0} (Q : ℕ → A → Type 0) (f : ℕ → A) (k : ℕ) (a : A) → Q k a → ((j : ℕ) → (j ≡ k → ⊥) → Q j (f j)) →
+    (j : ℕ) → Q j (changedAt f k a j)
 unfolding changedAt
-changed-all Q place k p new old j = by-test (eqb j k) refl
+changed-all Q f k a new old j = by-test (eqb j k) refl
   where
-    by-test : (b : Bool) → eqb j k ≡ b → Q j (pickPlace b p (place j))
+    by-test : (b : Bool) → eqb j k ≡ b → Q j (cond b a (f j))
     by-test true e = rw (eqb-true j k e) new
     by-test false e = old j (eqb-false j k e)

@@ -3,7 +3,7 @@
 -- posts what.
 -- Assumes nothing.
 use Prim.Native.Nat.{ℕ}
-use mathlib.Core.Bool.{Bool, true, false}
+use mathlib.Core.Bool.{cond}
 use mathlib.Core.List.{List, [], _∷_}
 use lib.Dec.{eqb, ltb}
 use lib.ListN.{length}
@@ -16,7 +16,7 @@ use Rattle.loom.specs.declared.Shared.{Shared}
 use Rattle.loom.specs.declared.Said.{Said}
 use Rattle.loom.specs.declared.Said.the-variants.{Nothing, Application, Answer}
 use Rattle.loom.specs.Sides.{sideFrom}
-use Rattle.loom.specs.Turn.{Rules, Turn, turnOf, pickPlace}
+use Rattle.loom.specs.Turn.{Rules, Turn, turnOf}
 
 -- What can be seen of a machine at work.
 pub data Event : Type 0 where
@@ -50,9 +50,9 @@ pub record State : Type 0 where
 abbrev pub sideOf : List Seat → ℕ → Side
 sideOf looms k = sideFrom (sideAt looms k)
 
--- The places with p for loom k and no other changed.
-unfoldable pub changedAt : (ℕ → Place) → ℕ → Place → ℕ → Place
-changedAt place k p j = pickPlace (eqb j k) p (place j)
+-- The family f with the value a at k and no other changed.
+unfoldable pub changedAt : {A : Type 0} → (ℕ → A) → ℕ → A → ℕ → A
+changedAt f k a j = cond (eqb j k) a (f j)
 
 -- The log after a post: a step from begin.
 unfoldable pub withPost : ℕ → Side → ℕ → Place → List Event → List Event
@@ -75,11 +75,6 @@ unfoldable pub turned : ℕ → Side → ℕ → Place → Turn → State → St
 turned k s v p t S =
     record { shared = t .shared; place = changedAt (S .place) k (t .place); log = withSaid k s (t .said) (withPost k s v p (S .log)) }
 
--- The first of two where the test holds, else the second.
-abbrev pub pickState : Bool → State → State → State
-pickState true S T = S
-pickState false S T = T
-
 -- The state with other places: all that a restart changes.
 abbrev pub replaced : State → (ℕ → Place) → State
 replaced S place = record { shared = S .shared; place = place; log = S .log }
@@ -96,7 +91,7 @@ module _ (next : ℕ → ℕ → ℕ) (looms : List Seat) (R : Rules) where
   -- "A restart of a loom sets its place to begin [...], in any place, answered included. A restart of all does it to every loom. Neither
   -- touches the shared memory."
   unfoldable pub acted : Act → State → State
-  acted (step k v) S = pickState (ltb k (length looms)) (stepped k v S) S
+  acted (step k v) S = cond (ltb k (length looms)) (stepped k v S) S
   acted (restart k) S = replaced S (changedAt (S .place) k Begin)
   acted restartAll S = replaced S (λ k. Begin)
 

@@ -2,26 +2,25 @@
 -- Assumes nothing.
 use Prim.Native.Nat.{ℕ, _≤_, _<_}
 use mathlib.Core.Path.{_≡_, refl}
-use mathlib.Core.Bool.{Bool, true, false}
+use mathlib.Core.Bool.{Bool, true, false, cond}
 use mathlib.Core.List.{List}
 use lib.Dec.{eqb, ltb}
 use lib.ListN.{length}
 use borrow.Author.Tests.{eq-eqb, ne-eqb, lt-ltb, le-ltb}
 use Rattle.recording.specs.declared.Seat.{Seat}
 use Rattle.recording.specs.Recording.{operationAt}
-use Rattle.loom.specs.declared.Place.{Place}
 use Rattle.loom.specs.declared.Place.the-variants.{Begin}
-use Rattle.loom.specs.Turn.{Rules, turnOf, pickPlace}
-use Rattle.agreement.specs.Machine.{Act, step, restart, restartAll, State, sideOf, changedAt, turned, pickState, replaced, steppedFrom, stepped, acted}
+use Rattle.loom.specs.Turn.{Rules, turnOf}
+use Rattle.agreement.specs.Machine.{Act, step, restart, restartAll, State, sideOf, changedAt, turned, replaced, steppedFrom, stepped, acted}
 
--- The changed loom is at its new place, and every other where it was.
-pub changed-itself : (place : ℕ → Place) (k : ℕ) (p : Place) → changedAt place k p k ≡ p
+-- The changed one has its new value, and every other its own.
+pub changed-itself : {A : Type 0} (f : ℕ → A) (k : ℕ) (a : A) → changedAt f k a k ≡ a
 unfolding changedAt
-changed-itself place k p = rw (eq-eqb k k refl)
+changed-itself f k a = rw (eq-eqb k k refl)
 
-pub changed-other : (place : ℕ → Place) (k : ℕ) (p : Place) (j : ℕ) → (j ≡ k → ⊥) → changedAt place k p j ≡ place j
+pub changed-other : {A : Type 0} (f : ℕ → A) (k : ℕ) (a : A) (j : ℕ) → (j ≡ k → ⊥) → changedAt f k a j ≡ f j
 unfolding changedAt
-changed-other place k p j apart = rw (ne-eqb j k apart)
+changed-other f k a j apart = rw (ne-eqb j k apart)
 
 module _ (next : ℕ → ℕ → ℕ) (looms : List Seat) (R : Rules) where
   -- A step of no loom of the group changes nothing.
@@ -44,7 +43,7 @@ module _ (next : ℕ → ℕ → ℕ) (looms : List Seat) (R : Rules) where
   unfolding acted stepped steppedFrom turned
   place-unstepped S j v k apart = by-test (ltb j (length looms))
     where
-      by-test : (b : Bool) → pickState b (stepped next looms R j v S) S .place k ≡ S .place k
+      by-test : (b : Bool) → cond b (stepped next looms R j v S) S .place k ≡ S .place k
       by-test true = changed-other (S .place) j _ k apart
       by-test false = refl
 

@@ -3,7 +3,7 @@
 use Prim.Native.Nat.{ℕ, zero, suc, _<_}
 use native.Mathlib.Omega.{arith}
 use mathlib.Core.Path.{_≡_, refl, ap, sym, _∙_}
-use mathlib.Core.Bool.{Bool, true, false}
+use mathlib.Core.Bool.{Bool, true, false, cond}
 use mathlib.Core.Logic.{_⊎_, inl, inr}
 use mathlib.Core.List.{List, [], _∷_, _++_}
 use lib.Dec.{T, eqb, ltb}
@@ -18,7 +18,7 @@ use Rattle.loom.specs.declared.Place.the-variants.{Begin, Posted, Looking, Read
 use Rattle.loom.specs.declared.Shared.{Shared}
 use Rattle.loom.specs.Sides.{sideNumber, other, sameSide, register, withRegister, withCell}
 use Rattle.loom.specs.Turn.{Rules, Turn, turnOf, pickSide, pickPlace, decided, both, looks, afterPosted, afterLooking}
-use Rattle.agreement.specs.Machine.{Event, posted, applied, answered, Act, step, restart, restartAll, EachStep, State, sideOf, changedAt, withPost, withSaid, turned, pickState, replaced, steppedFrom, stepped, acted, after, opening}
+use Rattle.agreement.specs.Machine.{Event, posted, applied, answered, Act, step, restart, restartAll, EachStep, State, sideOf, changedAt, withPost, withSaid, turned, replaced, steppedFrom, stepped, acted, after, opening}
 use Rattle.agreement.specs.Agreed.{Had, NoneApplied}
 use Rattle.agreement.specs.Fitted.{Renders, Fitted}
 use Rattle.agreement.specs.Orders.{order-of-one, order-of-one-more, reached-by-one-more, not-in-one-more, not-itself}
@@ -454,7 +454,7 @@ module _ {next : ℕ → ℕ → ℕ} {looms : List Seat} {start : ℕ} {R : Rul
   unfolding acted
   holds-acted (step k v) acts S filled known = by-test (ltb k (length looms)) refl
     where
-      by-test : (b : Bool) → ltb k (length looms) ≡ b → Holds next looms start R (pickState b (stepped next looms R k v S) S)
+      by-test : (b : Bool) → ltb k (length looms) ≡ b → Holds next looms start R (cond b (stepped next looms R k v S) S)
       by-test true e = holds-stepped S k v (ltb-true k (length looms) e) (filled .0) known
       by-test false e = known
   holds-acted (restart k) acts S filled known = holds-placed S k Begin known tt (λ t. absurd t)

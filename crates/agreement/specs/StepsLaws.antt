@@ -3,7 +3,7 @@
 use Prim.Native.Nat.{ℕ, zero, suc, _+_, _≤_, _<_, min}
 use native.Mathlib.Omega.{arith}
 use mathlib.Core.Path.{_≡_, refl, ap, sym, _∙_}
-use mathlib.Core.Bool.{Bool, true, false}
+use mathlib.Core.Bool.{Bool, true, false, cond}
 use mathlib.Core.List.{List, [], _∷_}
 use lib.Dec.{T, eqb, ltb, eqb-refl}
 use lib.ListN.{length}
@@ -16,7 +16,7 @@ use Rattle.loom.specs.declared.Place.the-variants.{Begin, Posted, Looking, Read
 use Rattle.loom.specs.declared.Shared.{Shared}
 use Rattle.loom.specs.Sides.{other, register}
 use Rattle.loom.specs.Turn.{Rules, turnOf, pickPlace, decided, both, looks, afterPosted, afterLooking}
-use Rattle.agreement.specs.Machine.{Event, answered, Act, step, restart, restartAll, State, sideOf, changedAt, withPost, withSaid, turned, pickState, replaced, steppedFrom, stepped, acted, after, opening}
+use Rattle.agreement.specs.Machine.{Event, answered, Act, step, restart, restartAll, State, sideOf, changedAt, withPost, withSaid, turned, replaced, steppedFrom, stepped, acted, after, opening}
 use Rattle.agreement.specs.Agreed.{Had}
 use Rattle.agreement.specs.LogLaws.{had-latest, had-still, changed-all}
 use Rattle.agreement.specs.MachineLaws.{stepped-no-loom, place-stepped, place-unstepped, place-restarted, place-unrestarted}
@@ -207,7 +207,7 @@ module _ (next : ℕ → ℕ → ℕ) (looms : List Seat) (R : Rules) where
   spoken-after [] S all = all
   spoken-after (step k v ∷ acts) S all = spoken-after acts _ (by-test (ltb k (length looms)))
     where
-      by-test : (b : Bool) (j : ℕ) → Spoken (pickState b (stepped next looms R k v S) S .log) j (pickState b (stepped next looms R k v S) S .place j)
+      by-test : (b : Bool) (j : ℕ) → Spoken (cond b (stepped next looms R k v S) S .log) j (cond b (stepped next looms R k v S) S .place j)
       by-test true = spoken-stepped S k v (S .place k) (all k) all
       by-test false = all
   spoken-after (restart k ∷ acts) S all = spoken-after acts _ (changed-all (Spoken (S .log)) (S .place) k Begin tt (λ j apart. all j))

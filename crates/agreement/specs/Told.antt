@@ -3,7 +3,7 @@
 -- Assumes nothing.
 use Prim.Native.Nat.{ℕ, _<_}
 use mathlib.Core.Path.{_≡_, refl}
-use mathlib.Core.Bool.{Bool, true, false}
+use mathlib.Core.Bool.{Bool, true, false, cond}
 use mathlib.Core.List.{List, [], _∷_, _++_}
 use lib.Dec.{ltb}
 use lib.ListN.{length}
@@ -14,7 +14,7 @@ use Rattle.loom.specs.declared.Side.{Side}
 use Rattle.loom.specs.declared.Place.{Place}
 use Rattle.loom.specs.declared.Place.the-variants.{Begin, Posted, Looking, Ready, Applied, Bound, Answered}
 use Rattle.loom.specs.Turn.{Rules, turnOf}
-use Rattle.agreement.specs.Machine.{Event, posted, applied, answered, Act, step, restart, restartAll, EachStep, State, sideOf, withPost, withSaid, turned, pickState, steppedFrom, stepped, acted, after}
+use Rattle.agreement.specs.Machine.{Event, posted, applied, answered, Act, step, restart, restartAll, EachStep, State, sideOf, withPost, withSaid, turned, steppedFrom, stepped, acted, after}
 use Rattle.agreement.specs.Agreed.{Had}
 
 -- An event that tells the truth; P k v says that loom k may post v.
@@ -52,7 +52,7 @@ module _ (next : ℕ → ℕ → ℕ) (looms : List Seat) (R : Rules) (P : ℕ �
   told-after [] S allowed all = all
   told-after (step k v ∷ acts) S allowed all = told-after acts _ (allowed .1) (by-test (ltb k (length looms)) refl)
     where
-      by-test : (b : Bool) → ltb k (length looms) ≡ b → AllTold P looms (pickState b (stepped next looms R k v S) S .log)
+      by-test : (b : Bool) → ltb k (length looms) ≡ b → AllTold P looms (cond b (stepped next looms R k v S) S .log)
       by-test true e = told-stepped S k v (S .place k) (ltb-true k (length looms) e) (allowed .0) all
       by-test false e = all
   told-after (restart k ∷ acts) S allowed all = told-after acts _ allowed all
