@@ -12,3 +12,5 @@ pub mod MachineLaws
 pub mod Steps
 pub mod StepsLaws
 pub mod SixSteps
+pub mod Figure
+pub mod Matched
