@@ -14,3 +14,4 @@ pub mod StepsLaws
 pub mod SixSteps
 pub mod Figure
 pub mod Matched
+pub mod MatchedLaws
