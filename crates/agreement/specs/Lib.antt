@@ -15,3 +15,4 @@ pub mod SixSteps
 pub mod Figure
 pub mod Matched
 pub mod MatchedLaws
+pub mod FigureTwo
