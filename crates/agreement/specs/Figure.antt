@@ -131,8 +131,8 @@ module _ (G : Setting) where
   -- A step "entails bounded local computation followed by an atomic operation on one shared object". Who has returned takes none.
   unfoldable pub movedFrom : ℕ → ℕ → Process → System → System
   movedFrom k v (running l q) F =
-    let d = access (G .op k) v (ahead l q) q (F .objects) in
-    record { objects = d .objects; process = changedAt (F .process) k (d .process); returns = withReturn k (d .process) (F .returns) }
+      let d = access (G .op k) v (ahead l q) q (F .objects) in
+      record { objects = d .objects; process = changedAt (F .process) k (d .process); returns = withReturn k (d .process) (F .returns) }
   movedFrom k v (returned X r) F = F
 
   -- A process at the beginning of its code, "its local variables hold their initial values".

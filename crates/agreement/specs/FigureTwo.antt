@@ -61,12 +61,12 @@ module _ (next : ℕ → ℕ → ℕ) (looms : List Seat) (R : Rules) where
       (j : ℕ) → changedAt (S .place) k p j ≡ placeOf (R .leading) (settingOf next looms R) (changedAt (F .process) k P j)
   place-joined S F k p P old new =
       changed-all
-        (λ j P′. changedAt (S .place) k p j ≡ placeOf (R .leading) (settingOf next looms R) P′)
-        (F .process)
-        k
-        P
-        (changed-itself (S .place) k p ∙ new)
-        (λ j apart. changed-other (S .place) k p j apart ∙ old j)
+      (λ j P′. changedAt (S .place) k p j ≡ placeOf (R .leading) (settingOf next looms R) P′)
+      (F .process)
+      k
+      P
+      (changed-itself (S .place) k p ∙ new)
+      (λ j apart. changed-other (S .place) k p j apart ∙ old j)
 
   -- A step of both, by the line of the process.
   pub joined-stepped : (S : State) (F : System) (k v : ℕ) → Filled v → Joined S F → (P : Process) (p : Place) →
@@ -77,19 +77,22 @@ module _ (next : ℕ → ℕ → ℕ) (looms : List Seat) (R : Rules) where
     where
       a : Access
       a = ahead (settingOf next looms R) l q
+
       side : sideOf looms k ≡ sideOfTeam (R .leading) (teamOfAccess a)
       side = sym (ap (sideOfTeam (R .leading)) (ahead-in-code (settingOf next looms R) l q ∙ own) ∙ side-of-team (R .leading) (sideOf looms k))
+
       equal : Equal (R .leading) (settingOf next looms R) (teamOfAccess a)
           (turnOf R (sideOf looms k) v (next (operationAt looms k)) (S .shared) (placeAt (R .leading) a))
           (access (next (operationAt looms k)) v a q (F .objects))
       equal = rw side (turn-is-access next looms R a v (next (operationAt looms k)) (S .shared) q (F .objects) some′ (joined .same))
+
       stepped-at : Joined (steppedFrom next looms R k v (placeAt (R .leading) a) S) (movedFrom (settingOf next looms R) k v (running l q) F)
       stepped-at =
           record {
             same = equal .same;
             place = place-joined S F k _ _ (joined .place) (equal .place);
             code =
-              changed-all
+                changed-all
                 (λ j P. InCode (teamOf (R .leading) (sideOf looms j)) P)
                 (F .process)
                 k
@@ -97,7 +100,7 @@ module _ (next : ℕ → ℕ → ℕ) (looms : List Seat) (R : Rules) where
                 (rw (ahead-in-code (settingOf next looms R) l q ∙ own) at (equal .code))
                 (λ j apart. joined .code j);
             answers =
-              answer-is-return next looms R a k (sideOf looms k) v (next (operationAt looms k)) (S .shared) q (F .objects) (S .log) (F .returns) (joined .same) (joined .answers);
+                answer-is-return next looms R a k (sideOf looms k) v (next (operationAt looms k)) (S .shared) q (F .objects) (S .log) (F .returns) (joined .same) (joined .answers);
           }
   joined-stepped S F k v some′ joined (returned X r) p there own here = rw there stayed
     where
@@ -106,7 +109,7 @@ module _ (next : ℕ → ℕ → ℕ) (looms : List Seat) (R : Rules) where
           record {
             same = joined .same;
             place =
-              changed-all
+                changed-all
                 (λ j p′. p′ ≡ placeOf (R .leading) (settingOf next looms R) (F .process j))
                 (S .place)
                 k
@@ -130,7 +133,7 @@ module _ (next : ℕ → ℕ → ℕ) (looms : List Seat) (R : Rules) where
         same = joined .same;
         place = place-joined S F k Begin _ (joined .place) (sym (place-of-first (R .leading) (settingOf next looms R) (teamOf (R .leading) (sideOf looms k))));
         code =
-          changed-all
+            changed-all
             (λ j P. InCode (teamOf (R .leading) (sideOf looms j)) P)
             (F .process)
             k

@@ -16,3 +16,7 @@ pub mod Figure
 pub mod Matched
 pub mod MatchedLaws
 pub mod FigureTwo
+pub mod Certificates
+pub mod TwoLooms
+pub mod Examples
+pub mod Refused

@@ -28,14 +28,14 @@ sideOfTeam L teamB = other L
 -- What the algorithm is given by looms and their rules.
 abbrev pub settingOf : (ℕ → ℕ → ℕ) → List Seat → Rules → Setting
 settingOf next looms R =
-  record {
-    q0 = R .start;
-    inQA = R .inLeading;
-    loneB = R .yieldsAlone;
-    processes = length looms;
-    team = λ k. teamOf (R .leading) (sideOf looms k);
-    op = λ k. next (operationAt looms k);
-  }
+    record {
+      q0 = R .start;
+      inQA = R .inLeading;
+      loneB = R .yieldsAlone;
+      processes = length looms;
+      team = λ k. teamOf (R .leading) (sideOf looms k);
+      op = λ k. next (operationAt looms k);
+    }
 
 -- "0 means not posted."
 abbrev pub number : Value → ℕ

@@ -85,12 +85,12 @@ ahead-in-code G line16 q = refl
 ahead-in-code G line17 q = refl
 ahead-in-code G line18 q =
     team-of-pick
-      (test (λ s. eqb s (G .q0)) q)
-      teamB
-      (cond (G .loneB) at19 at22)
-      (cond (test (G .inQA) q) at26 at27)
-      (team-of-pick (G .loneB) teamB at19 at22 refl refl)
-      (team-of-pick (test (G .inQA) q) teamB at26 at27 refl refl)
+    (test (λ s. eqb s (G .q0)) q)
+    teamB
+    (cond (G .loneB) at19 at22)
+    (cond (test (G .inQA) q) at26 at27)
+    (team-of-pick (G .loneB) teamB at19 at22 refl refl)
+    (team-of-pick (test (G .inQA) q) teamB at26 at27 refl refl)
 ahead-in-code G line20 q = refl
 ahead-in-code G line22 q = refl
 ahead-in-code G line23 q = refl
@@ -168,16 +168,18 @@ module _ (next : ℕ → ℕ → ℕ) (looms : List Seat) (R : Rules) where
   unfolding afterPosted ahead
   place-after-line-six q =
       rw
-        (leading-looks R, place-of-pick (R .leading) (eqb q (R .start)) at8 (cond (R .inLeading q) at11 at12))
-        (ap (λ p. pickPlace (eqb q (R .start)) Ready p) (decided-is-line q at11 at12 refl refl))
+      (leading-looks R, place-of-pick (R .leading) (eqb q (R .start)) at8 (cond (R .inLeading q) at11 at12))
+      (ap (λ p. pickPlace (eqb q (R .start)) Ready p) (decided-is-line q at11 at12 refl refl))
 
   pub place-after-line-seventeen : (q : ℕ) → afterPosted R (other (R .leading)) q ≡ placeAt (R .leading) (ahead (settingOf next looms R) line18 (some q))
   unfolding afterPosted ahead
   place-after-line-seventeen q =
-      rw
-        (yielding-looks R, place-of-pick (R .leading) (eqb q (R .start)) (cond (R .yieldsAlone) at19 at22) (cond (R .inLeading q) at26 at27),
-          place-of-pick (R .leading) (R .yieldsAlone) at19 at22)
-        (ap (λ p. pickPlace (eqb q (R .start)) (pickPlace (R .yieldsAlone) Looking Ready) p) (decided-is-line q at26 at27 refl refl))
+      rw (
+        yielding-looks R,
+        place-of-pick (R .leading) (eqb q (R .start)) (cond (R .yieldsAlone) at19 at22) (cond (R .inLeading q) at26 at27),
+        place-of-pick (R .leading) (R .yieldsAlone) at19 at22,
+      )
+      (ap (λ p. pickPlace (eqb q (R .start)) (pickPlace (R .yieldsAlone) Looking Ready) p) (decided-is-line q at26 at27 refl refl))
 
   -- Line 19: a register that holds 0 was never written.
   pub place-after-line-nineteen : (m : Shared) (r q : Value) → Proper r → register m (R .leading) ≡ number r →
@@ -190,21 +192,21 @@ module _ (next : ℕ → ℕ → ℕ) (looms : List Seat) (R : Rules) where
   -- Memory that is not written stays the same.
   pub turn-is-access : (a : Access) (v : ℕ) (op : ℕ → ℕ) (m : Shared) (q : Value) (M : Objects) → Filled v → Same (R .leading) m M →
       Equal
-        (R .leading)
-        (settingOf next looms R)
-        (teamOfAccess a)
-        (turnOf R (sideOfTeam (R .leading) (teamOfAccess a)) v op m (placeAt (R .leading) a))
-        (access op v a q M)
+      (R .leading)
+      (settingOf next looms R)
+      (teamOfAccess a)
+      (turnOf R (sideOfTeam (R .leading) (teamOfAccess a)) v op m (placeAt (R .leading) a))
+      (access op v a q M)
   unfolding turnOf access ahead
   turn-is-access at5 v op m q M some′ same =
       record {
         same =
-          record {
-            cell = cell-kept m (R .leading) v ∙ same .cell;
-            leading = register-written m (R .leading) v;
-            yielding = register-kept m (R .leading) v ∙ same .yielding;
-            proper = some′;
-          };
+            record {
+              cell = cell-kept m (R .leading) v ∙ same .cell;
+              leading = register-written m (R .leading) v;
+              yielding = register-kept m (R .leading) v ∙ same .yielding;
+              proper = some′;
+            };
         place = refl;
         code = refl;
       }
@@ -218,12 +220,12 @@ module _ (next : ℕ → ℕ → ℕ) (looms : List Seat) (R : Rules) where
   turn-is-access at16 v op m q M some′ same =
       record {
         same =
-          record {
-            cell = cell-kept m (other (R .leading)) v ∙ same .cell;
-            leading = (rw (other-other (R .leading)) at (register-kept m (other (R .leading)) v)) ∙ same .leading;
-            yielding = register-written m (other (R .leading)) v;
-            proper = same .proper;
-          };
+            record {
+              cell = cell-kept m (other (R .leading)) v ∙ same .cell;
+              leading = (rw (other-other (R .leading)) at (register-kept m (other (R .leading)) v)) ∙ same .leading;
+              yielding = register-written m (other (R .leading)) v;
+              proper = same .proper;
+            };
         place = refl;
         code = refl;
       }
