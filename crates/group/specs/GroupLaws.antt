@@ -1,0 +1,67 @@
+-- Laws of a group as a value.
+-- Assumes nothing.
+use Prim.Native.Nat.{ℕ, zero, suc, _+_, _≤_, _<_}
+use native.Mathlib.Omega.{arith}
+use native.Mathlib.Numerals.{add-one}
+use mathlib.Core.Path.{_≡_, refl, sym, ap, subst, _∙_}
+use mathlib.Core.Bool.{Bool, true, false}
+use mathlib.Core.List.{List, [], _∷_}
+use lib.Dec.{T, eqb, ltb, leb}
+use lib.ListN.{length, take, drop, getD, length-take, drop-of-length-le}
+use lib.Seq.{drop-cons, getD-take}
+use borrow.Author.Tests.{ltb-false, leb-false}
+use Rattle.cell.specs.Limits.{edition}
+use Rattle.cell.specs.Table.{pick, either}
+use Rattle.loom.specs.declared.Side.{Side}
+use Rattle.loom.specs.declared.Loom.{Loom}
+use Rattle.loom.specs.declared.Lead.{Lead}
+use Rattle.loom.specs.Sides.{other, sameSide}
+use Rattle.group.specs.declared.Group.{Group}
+use Rattle.group.specs.Group.{emptyLoom, setOf, countOf, yieldingOf, leadingOf, leadOf, noLoom, restartedAt, restartedBelow}
+
+-- Counting from loom i on is loom i and counting from the next on.
+pub count-from : (s : Side) (looms : List Loom) (n i : ℕ) → i < n → n ≤ length looms →
+    countOf s (drop i (take n looms)) ≡ pick (sameSide (getD looms i emptyLoom .side) s) 1 0 + countOf s (drop (i + 1) (take n looms))
+unfolding countOf
+count-from s looms n i below within =
+    let short : i < length (take n looms) = simp length-take (omega arith) in
+    rw (drop-cons (take n looms) i emptyLoom short, add-one, getD-take)
+
+-- From the last loom on there is none to count.
+pub count-past : (s : Side) (looms : List Loom) (n i : ℕ) → n ≤ i → countOf s (drop i (take n looms)) ≡ 0
+unfolding countOf
+count-past s looms n i past =
+    let all : length (take n looms) ≤ i = simp length-take (omega arith) in
+    rw (drop-of-length-le (take n looms) all)
+
+-- One loom counts once at most.
+pub one-at-most : (t : Bool) → pick t 1 0 ≤ 1
+one-at-most true = omega arith
+one-at-most false = omega arith
+
+-- What the looms go by, from its parts: y is the yielding side, s the leading side, w its set and n the count of the yielding side.
+pub lead-of-parts : (g : Group) (y s : Side) (w n : ℕ) →
+    y ≡ yieldingOf (g .start) (g .sets) →
+    s ≡ other y →
+    w ≡ setOf (g .sets) s →
+    n ≡ countOf y (take (g .count) (g .looms)) →
+    _≡_ {A = Lead} (record { start = g .start; side = s; set = w; alone = eqb n 1 }) (leadOf g)
+unfolding leadOf
+lead-of-parts g y s w n ey es ew en =
+    let leads : s ≡ leadingOf (g .start) (g .sets) = es ∙ ap other ey in
+    rw (ew ∙ ap (setOf (g .sets)) leads, leads, en ∙ ap (λ x. countOf x (take (g .count) (g .looms))) ey)
+
+-- A loom that a group has is below the group's count, and the count within the limit.
+pub has-loom : (g : Group) (k : ℕ) → noLoom g k ≡ false → (k < g .count) × (g .count ≤ edition .looms)
+has-loom g k = go (ltb (edition .looms) (g .count)) (leb (g .count) k) refl refl
+  where
+    go : (s t : Bool) → ltb (edition .looms) (g .count) ≡ s → leb (g .count) k ≡ t → either s t ≡ false →
+        (k < g .count) × (g .count ≤ edition .looms)
+    go true t e f none = absurd (subst T none tt)
+    go false true e f none = absurd (subst T none tt)
+    go false false e f none = (leb-false (g .count) k f, ltb-false (edition .looms) (g .count) e)
+
+-- Restarting the looms below i, and then loom i, is restarting those below the next.
+pub restarted-next : (g h : Group) (i : ℕ) → h ≡ restartedBelow g i → restartedAt h i ≡ restartedBelow g (i + 1)
+unfolding restartedBelow
+restarted-next g h i e = rw add-one (ap (λ x. restartedAt x i) e)

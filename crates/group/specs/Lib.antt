@@ -1,0 +1,5 @@
+pub mod Group
+pub mod GroupLaws
+pub mod Step
+pub mod StepLaws
+pub mod Only

@@ -1,0 +1,40 @@
+-- Nothing else meets the contracts of `src/lib.rt`: what each says of a result determines the result.
+-- Assumes nothing.
+use Prim.Native.Nat.{ℕ}
+use mathlib.Core.Path.{_≡_, sym, _∙_}
+use mathlib.Core.List.{List}
+use Rattle.loom.specs.declared.Side.{Side}
+use Rattle.loom.specs.declared.Loom.{Loom}
+use Rattle.loom.specs.declared.Lead.{Lead}
+use Rattle.loom.specs.declared.Shared.{Shared}
+use Rattle.loom.specs.Looms.{rulesOf}
+use Rattle.group.specs.declared.Sets.{Sets}
+use Rattle.group.specs.declared.Numbers.{Numbers}
+use Rattle.group.specs.declared.Group.{Group}
+use Rattle.group.specs.declared.Outcome.{Outcome}
+use Rattle.group.specs.declared.Stepped.{Stepped}
+use Rattle.group.specs.declared.Restarted.{Restarted}
+use Rattle.group.specs.Group.{setOf, numberOf}
+use Rattle.group.specs.Step.{stepOnOf, stepOf, restartOf, restartAllOf}
+
+pub sets-only-of : (self : Sets) (side : Side) (r s : ℕ) → r ≡ setOf self side → s ≡ setOf self side → r ≡ s
+sets-only-of self side r s p q = p ∙ sym q
+
+pub numbers-only-of : (self : Numbers) (side : Side) (r s : ℕ) → r ≡ numberOf self side → s ≡ numberOf self side → r ≡ s
+numbers-only-of self side r s p q = p ∙ sym q
+
+pub only-step-on : (lead : Lead) (number : ℕ) (table : List ℕ) (states operations : ℕ) (shared : Shared) (loom : Loom) (r s : Outcome) →
+    r ≡ stepOnOf (rulesOf lead) number table states operations shared loom →
+    s ≡ stepOnOf (rulesOf lead) number table states operations shared loom →
+    r ≡ s
+only-step-on lead number table states operations shared loom r s p q = p ∙ sym q
+
+pub only-step : (group : Group) (table : List ℕ) (states operations loom : ℕ) (r s : Stepped) →
+    r ≡ stepOf table states operations group loom → s ≡ stepOf table states operations group loom → r ≡ s
+only-step group table states operations loom r s p q = p ∙ sym q
+
+pub only-restart : (group : Group) (loom : ℕ) (r s : Restarted) → r ≡ restartOf group loom → s ≡ restartOf group loom → r ≡ s
+only-restart group loom r s p q = p ∙ sym q
+
+pub only-restart-all : (group : Group) (r s : Restarted) → r ≡ restartAllOf group → s ≡ restartAllOf group → r ≡ s
+only-restart-all group r s p q = p ∙ sym q

@@ -1,0 +1,198 @@
+-- Laws of a step: one for each way that it ends.
+-- Assumes nothing.
+use Prim.Native.Nat.{ℕ, zero, suc, _+_, _*_, _≤_, _<_}
+use native.Mathlib.Omega.{arith}
+use native.Mathlib.Nat.{suc-mul, mul-comm, mul-le-mul, le-refl, lt-of-lt-of-le}
+use mathlib.Core.Path.{_≡_, refl, sym, ap, subst, _∙_}
+use mathlib.Core.Bool.{Bool, true, false}
+use mathlib.Core.List.{List}
+use lib.Dec.{eqb, leb}
+use lib.ListN.{length}
+use borrow.Author.Tests.{lt-ltb, le-ltb, le-leb, lt-leb, leb-true, leb-false, eq-eqb, ne-eqb}
+use Rattle.cell.specs.declared.Moved.{Moved}
+use Rattle.cell.specs.declared.Moved.the-variants.{To, Refused}
+use Rattle.cell.specs.Limits.{edition}
+use Rattle.cell.specs.Table.{position, entryOf, nextOf, pickMoved}
+use Rattle.cell.specs.TableLaws.{refused-entry, moved-to}
+use Rattle.loom.specs.declared.Loom.{Loom}
+use Rattle.loom.specs.declared.Lead.{Lead}
+use Rattle.loom.specs.declared.Shared.{Shared}
+use Rattle.loom.specs.declared.Turned.{Turned}
+use Rattle.loom.specs.Turn.{Rules}
+use Rattle.loom.specs.Looms.{rulesOf, turnedOf}
+use Rattle.loom.specs.LoomsLaws.{turned-of-next}
+use Rattle.group.specs.declared.Group.{Group}
+use Rattle.group.specs.declared.Outcome.{Outcome}
+use Rattle.group.specs.declared.Stepped.{Stepped}
+use Rattle.group.specs.declared.Restarted.{Restarted}
+use Rattle.group.specs.Group.{loomAt, numberOf, leadOf, groupRules, withLoom, withShared, noLoom, restartedAt, restartedBelow}
+use Rattle.group.specs.Step.{isUnfit, fittedOf, hasAnswered, unmoved, taken, stepOnOf, refused, settled, ownStep, stepOf, restarted, restartOf, restartAllOf}
+
+-- Whether group and table fit, one law for each way that it ends.
+module _ (table : List ℕ) (states operations o q : ℕ) where
+  pub unfit-no-state : states < 1 → Refused ≡ fittedOf table states operations o q
+  unfolding isUnfit
+  unfit-no-state h = simp (lt-ltb _ _ h)
+
+  module _ (some : 1 ≤ states) where
+    pub unfit-states : edition .states < states → Refused ≡ fittedOf table states operations o q
+    unfolding isUnfit
+    unfit-states h = simp (le-ltb _ _ some, lt-ltb _ _ h)
+
+    module _ (few : states ≤ edition .states) where
+      pub unfit-no-operation : operations < 1 → Refused ≡ fittedOf table states operations o q
+      unfolding isUnfit
+      unfit-no-operation h = simp (le-ltb _ _ some, le-ltb _ _ few, lt-ltb _ _ h)
+
+      module _ (any : 1 ≤ operations) where
+        pub unfit-operations : edition .operations < operations → Refused ≡ fittedOf table states operations o q
+        unfolding isUnfit
+        unfit-operations h = simp (le-ltb _ _ some, le-ltb _ _ few, le-ltb _ _ any, lt-ltb _ _ h)
+
+        module _ (fitted : operations ≤ edition .operations) where
+          -- the product is a number of the machine
+          pub entries-within : states * operations ≤ edition .states * edition .operations
+          entries-within = mul-le-mul few fitted
+
+          pub unfit-length : (length table ≡ states * operations → ⊥) → Refused ≡ fittedOf table states operations o q
+          unfolding isUnfit
+          unfit-length h = simp (le-ltb _ _ some, le-ltb _ _ few, le-ltb _ _ any, le-ltb _ _ fitted, ne-eqb _ _ h)
+
+          module _ (whole : length table ≡ states * operations) where
+            pub unfit-state : states ≤ q → Refused ≡ fittedOf table states operations o q
+            unfolding isUnfit
+            unfit-state h =
+                simp (le-ltb _ _ some, le-ltb _ _ few, le-ltb _ _ any, le-ltb _ _ fitted, eq-eqb _ _ whole, le-leb _ _ h)
+
+            module _ (state : q < states) where
+              pub unfit-operation : operations ≤ o → Refused ≡ fittedOf table states operations o q
+              unfolding isUnfit
+              unfit-operation h =
+                  simp (
+                    le-ltb _ _ some,
+                    le-ltb _ _ few,
+                    le-ltb _ _ any,
+                    le-ltb _ _ fitted,
+                    eq-eqb _ _ whole,
+                    lt-leb _ _ state,
+                    le-leb _ _ h,
+                  )
+
+              module _ (operation : o < operations) where
+                there : position states o q < length table
+                there =
+                    subst (λ n. position states o q < n) (mul-comm operations states ∙ sym whole)
+                    (lt-of-lt-of-le (omega (arith, suc-mul o states)) (mul-le-mul operation (le-refl states)))
+
+                -- what is left is the lookup's own test of the entry
+                pub unfit-by-entry : nextOf table states o q ≡ fittedOf table states operations o q
+                unfolding isUnfit
+                unfit-by-entry = go (leb states (entryOf table states o q)) refl
+                  where
+                    go : (t : Bool) → leb states (entryOf table states o q) ≡ t → nextOf table states o q ≡ fittedOf table states operations o q
+                    go true e =
+                        refused-entry table states o q few (omega arith) state there (leb-true _ _ e)
+                        ∙ simp (
+                          le-ltb _ _ some,
+                          le-ltb _ _ few,
+                          le-ltb _ _ any,
+                          le-ltb _ _ fitted,
+                          eq-eqb _ _ whole,
+                          lt-leb _ _ state,
+                          lt-leb _ _ operation,
+                          e,
+                        )
+                    go false e =
+                        moved-to table states o q few (omega arith) state there (leb-false _ _ e)
+                        ∙ simp (
+                          le-ltb _ _ some,
+                          le-ltb _ _ few,
+                          le-ltb _ _ any,
+                          le-ltb _ _ fitted,
+                          eq-eqb _ _ whole,
+                          lt-leb _ _ state,
+                          lt-leb _ _ operation,
+                          e,
+                        )
+
+-- A lookup that is refused is one of an unfit table.
+refused-is-unfit : (t : Bool) (e : ℕ) → Refused ≡ pickMoved t Refused (To e) → t ≡ true
+refused-is-unfit true e h = refl
+refused-is-unfit false e h = let z : false ≡ true = cc in z
+
+-- One that is answered is of a table that fits, and the answer is the entry.
+answered-is-fit : (t : Bool) (e s : ℕ) → To s ≡ pickMoved t Refused (To e) → (t ≡ false) × (s ≡ e)
+answered-is-fit true e s h = let z : true ≡ false = cc in let y : s ≡ e = cc in (z, y)
+answered-is-fit false e s h = let y : s ≡ e = cc in (refl, y)
+
+-- A step on the shared memory, one law for each way that it ends.
+module _ (R : Rules) (v : ℕ) (table : List ℕ) (states operations : ℕ) (m : Shared) (l : Loom) where
+  pub step-unfit : Refused ≡ fittedOf table states operations (l .operation) (m .cell)
+      → unmoved 32 m l ≡ stepOnOf R v table states operations m l
+  unfolding stepOnOf
+  step-unfit h =
+      simp (refused-is-unfit (isUnfit table states operations (l .operation) (m .cell)) (entryOf table states (l .operation) (m .cell)) h)
+
+  module _ (s : ℕ) (fits : To s ≡ fittedOf table states operations (l .operation) (m .cell)) where
+    fit : (isUnfit table states operations (l .operation) (m .cell) ≡ false) × (s ≡ entryOf table states (l .operation) (m .cell))
+    fit =
+        answered-is-fit (isUnfit table states operations (l .operation) (m .cell)) (entryOf table states (l .operation) (m .cell)) s fits
+
+    pub step-answered : hasAnswered (l .place) ≡ true → unmoved 31 m l ≡ stepOnOf R v table states operations m l
+    unfolding stepOnOf
+    step-answered h = simp (fit .0, h)
+
+    pub step-taken : hasAnswered (l .place) ≡ false → taken (turnedOf R v (λ _. s) m l) ≡ stepOnOf R v table states operations m l
+    unfolding stepOnOf
+    step-taken h =
+        ap (λ n. taken (turnedOf R v (λ _. n) m l)) (fit .1)
+        ∙ (ap taken (sym (turned-of-next R v (entryOf table states (l .operation)) m l))
+        ∙ simp (fit .0, h))
+
+-- A group's step, restart of one and restart of all, one law for each way that they end.
+module _ (g : Group) (k : ℕ) where
+  pub settled-refused : (r : Outcome) → (r .code ≡ 0 → ⊥) → refused (r .code) g ≡ settled g k r
+  unfolding settled
+  settled-refused r h = simp (ne-eqb _ _ h)
+
+  pub settled-taken : (r : Outcome) → r .code ≡ 0 →
+      _≡_ {A = Stepped}
+      (record { code = 0; said = r .said; steps = r .loom .steps; group = withLoom (withShared g (r .shared)) k (r .loom) })
+      (settled g k r)
+  unfolding settled
+  settled-taken r h = simp (eq-eqb _ _ h)
+
+  -- the step of loom k from the group's rules and its side's number, held elsewhere
+  pub own-step : (table : List ℕ) (states operations : ℕ) (lead : Lead) (v : ℕ) →
+      lead ≡ leadOf g →
+      v ≡ numberOf (g .numbers) (loomAt g k .side) →
+      stepOnOf (rulesOf lead) v table states operations (g .shared) (loomAt g k) ≡ ownStep table states operations g k
+  own-step table states operations lead v el ev =
+      ap (λ x. stepOnOf (rulesOf x) v table states operations (g .shared) (loomAt g k)) el
+      ∙ ap (λ n. stepOnOf (groupRules g) n table states operations (g .shared) (loomAt g k)) ev
+
+  pub step-no-loom : (table : List ℕ) (states operations : ℕ) → noLoom g k ≡ true → refused 30 g ≡ stepOf table states operations g k
+  unfolding stepOf
+  step-no-loom table states operations h = simp h
+
+  pub step-of-loom : (table : List ℕ) (states operations : ℕ) → noLoom g k ≡ false →
+      settled g k (ownStep table states operations g k) ≡ stepOf table states operations g k
+  unfolding stepOf
+  step-of-loom table states operations h = simp h
+
+  pub restart-no-loom : noLoom g k ≡ true → restarted 30 g ≡ restartOf g k
+  unfolding restartOf
+  restart-no-loom h = simp h
+
+  pub restart-of-loom : noLoom g k ≡ false → restarted 0 (restartedAt g k) ≡ restartOf g k
+  unfolding restartOf
+  restart-of-loom h = simp h
+
+module _ (g : Group) where
+  pub restart-too-many : edition .looms < g .count → restarted 30 g ≡ restartAllOf g
+  unfolding restartAllOf
+  restart-too-many h = simp (lt-ltb _ _ h)
+
+  pub restart-all-of : g .count ≤ edition .looms → restarted 0 (restartedBelow g (g .count)) ≡ restartAllOf g
+  unfolding restartAllOf
+  restart-all-of h = simp (le-ltb _ _ h)

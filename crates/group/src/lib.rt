@@ -1,0 +1,381 @@
+// A group of looms over one cell: opened, stepped and restarted.
+ghost use mathlib.Core.Path.{_≡_};
+ghost use mathlib.Core.Bool.{true};
+ghost use Prim.Native.Nat.{_<_, _≤_};
+ghost use lib.ListN.{take};
+ghost use Rattle.cell.specs.Limits.{edition};
+ghost use Rattle.cell.specs.Table.{pick};
+ghost use Rattle.loom.specs.Sides.{sameSide};
+ghost use Rattle.loom.specs.Looms.{rulesOf};
+ghost use Rattle.group.specs.Group.{setOf, numberOf, countOf, yieldingOf, leadOf, withLoom, withShared, noLoom, restartedAt, restartedBelow};
+ghost use Rattle.group.specs.Step.{fittedOf, hasAnswered, unmoved, taken, stepOnOf, refused, settled, stepOf, restartOf, restartAllOf};
+use loom::Lead;
+use loom::Loom;
+use loom::Place;
+use loom::Said;
+use loom::Shared;
+use loom::Side;
+use loom::Turned;
+
+// The two sides' sets of states.
+pub struct Sets {
+    pub a: u64,
+    pub b: u64,
+}
+
+// The two sides' piece numbers.
+pub struct Numbers {
+    pub a: u32,
+    pub b: u32,
+}
+
+// A group: how many looms it has, the start, the two sets and numbers, fixed at opening; the shared memory; and its looms. Slots beyond
+// the count are empty.
+pub struct Group {
+    pub count: usize,
+    pub start: u8,
+    pub sets: Sets,
+    pub numbers: Numbers,
+    pub shared: Shared,
+    pub looms: [Loom; 8],
+}
+
+// What a step on lent memory comes to: the code, what it says, the memory and the loom.
+pub struct Outcome {
+    pub code: u8,
+    pub said: Said,
+    pub shared: Shared,
+    pub loom: Loom,
+}
+
+// What a step of a group comes to: the code, what it says, the loom's step count, and the group.
+pub struct Stepped {
+    pub code: u8,
+    pub said: Said,
+    pub steps: u8,
+    pub group: Group,
+}
+
+// What a restart comes to: the code and the group.
+pub struct Restarted {
+    pub code: u8,
+    pub group: Group,
+}
+
+impl Sets {
+    // The set of a side.
+    pub fn of(self, side: Side) -> u64
+        ensures { λ r. ⌜ r ≡ setOf self side ⌝ }
+    {
+        match side {
+            Side::A => self.a,
+            Side::B => self.b,
+        }
+    }
+}
+
+impl Numbers {
+    // The number of a side.
+    pub fn of(self, side: Side) -> u32
+        ensures { λ r. ⌜ r ≡ numberOf self side ⌝ }
+    {
+        match side {
+            Side::A => self.a,
+            Side::B => self.b,
+        }
+    }
+}
+
+// The yielding side of a start and two sets.
+fn yielding(start: u8, sets: Sets) -> Side
+    ensures { λ r. ⌜ r ≡ yieldingOf start sets ⌝ }
+{
+    if sets::has(sets.b, start as usize) {
+        Side::A
+    } else {
+        Side::B
+    }
+}
+
+// 1 where a loom's side is the side asked for, else 0.
+fn one_of(own: Side, side: Side) -> usize
+    ensures { λ r. ⌜ r ≡ pick (sameSide own side) 1 0 ⌝ }
+{
+    if own.same(side) { 1 } else { 0 }
+}
+
+// How many of the first looms are of a side.
+fn side_count(looms: [Loom; 8], count: usize, side: Side) -> usize
+    requires { ⌜ count ≤ edition .looms ⌝ }
+    ensures { λ r. ⌜ r ≡ countOf side (take count looms) ⌝ }
+{
+    let mut found = 0;
+    let mut i = 0;
+    while i < count {
+        let loom = looms[i];
+        let own = loom.side;
+        found += one_of(own, side);
+        i += 1;
+    }
+    found
+}
+
+// The state after an operation in a state, where group and table fit: states and operations within limits, the table's length, the state,
+// the operation and the entry.
+fn fitted(
+    table: &[u8],
+    states: usize,
+    operations: usize,
+    operation: usize,
+    state: usize,
+) -> cell::Moved
+    ensures { λ r. ⌜ r ≡ fittedOf (now (table .entry)) states operations operation state ⌝ }
+{
+    if states < 1 {
+        return cell::Moved::Refused;
+    }
+    if cell::STATES < states {
+        return cell::Moved::Refused;
+    }
+    if operations < 1 {
+        return cell::Moved::Refused;
+    }
+    if cell::OPERATIONS < operations {
+        return cell::Moved::Refused;
+    }
+    if table.len() != states * operations {
+        return cell::Moved::Refused;
+    }
+    if states <= state {
+        return cell::Moved::Refused;
+    }
+    if operations <= operation {
+        return cell::Moved::Refused;
+    }
+    cell::next(table, states, operation, state)
+}
+
+// Whether a place is that of a loom that has answered.
+fn has_answered(place: Place) -> bool
+    ensures { λ r. ⌜ r ≡ hasAnswered place ⌝ }
+{
+    match place {
+        Place::Begin => false,
+        Place::Posted => false,
+        Place::Looking => false,
+        Place::Ready => false,
+        Place::Applied => false,
+        Place::Bound(_) => false,
+        Place::Answered(_) => true,
+    }
+}
+
+// A refused step: the memory and the loom as they were given.
+fn unmoved(code: u8, shared: Shared, loom: Loom) -> Outcome
+    ensures { λ r. ⌜ r ≡ unmoved code shared loom ⌝ }
+{
+    Outcome {
+        code,
+        said: Said::Nothing,
+        shared,
+        loom,
+    }
+}
+
+// A step that was taken.
+fn taken(turned: Turned) -> Outcome
+    ensures { λ r. ⌜ r ≡ taken turned ⌝ }
+{
+    let said = turned.said;
+    let shared = turned.shared;
+    let loom = turned.loom;
+    Outcome {
+        code: 0,
+        said,
+        shared,
+        loom,
+    }
+}
+
+// One step of a loom on the shared memory, by the rules of its group: `number` is what it posts. Refuses with 32 where group and table
+// don't fit, then with 31 where the loom has answered; then nothing has moved.
+pub fn step_on(
+    lead: Lead,
+    number: u32,
+    table: &[u8],
+    states: usize,
+    operations: usize,
+    shared: Shared,
+    loom: Loom,
+) -> Outcome
+    ensures { λ r. ⌜ r ≡ stepOnOf (rulesOf lead) number (now (table .entry)) states operations shared loom ⌝ }
+{
+    let place = loom.place;
+    let next = fitted(
+        table,
+        states,
+        operations,
+        loom.operation as usize,
+        shared.cell as usize,
+    );
+    match next {
+        cell::Moved::Refused => unmoved(32, shared, loom),
+        cell::Moved::To(state) => {
+            if has_answered(place) {
+                unmoved(31, shared, loom)
+            } else {
+                taken(loom::turn(lead, number, state, shared, loom))
+            }
+        }
+    }
+}
+
+impl Group {
+    // What the group's looms go by.
+    fn lead(self) -> Lead
+        requires { ⌜ self .count ≤ edition .looms ⌝ }
+        ensures { λ r. ⌜ r ≡ leadOf self ⌝ }
+    {
+        let sets = self.sets;
+        let looms = self.looms;
+        let yields = yielding(self.start, sets);
+        let side = yields.other();
+        let set = sets.of(side);
+        let few = side_count(looms, self.count, yields);
+        Lead {
+            start: self.start,
+            side,
+            set,
+            alone: few == 1,
+        }
+    }
+
+    // Whether there is no loom of that number, or too many looms.
+    fn no_loom(self, loom: usize) -> bool
+        ensures { λ r. ⌜ r ≡ noLoom self loom ⌝ }
+    {
+        cell::LOOMS < self.count || self.count <= loom
+    }
+
+    // The group with another loom in a slot. Nothing else changes a group's loom.
+    fn with_loom(self, at: usize, loom: Loom) -> Group
+        requires { ⌜ at < edition .looms ⌝ }
+        ensures { λ r. ⌜ r ≡ withLoom self at loom ⌝ }
+    {
+        let mut group = self;
+        group.looms[at] = loom;
+        group
+    }
+
+    // The group with another memory. Nothing else changes a group's memory.
+    fn with_shared(self, shared: Shared) -> Group
+        ensures { λ r. ⌜ r ≡ withShared self shared ⌝ }
+    {
+        let mut group = self;
+        group.shared = shared;
+        group
+    }
+
+    // The group with one of its looms restarted.
+    fn restarted_at(self, at: usize) -> Group
+        requires { ⌜ at < edition .looms ⌝ }
+        ensures { λ r. ⌜ r ≡ restartedAt self at ⌝ }
+    {
+        let loom = self.looms[at];
+        self.with_loom(at, loom.restarted())
+    }
+}
+
+// A refused step: the group as it was given.
+fn refused(code: u8, group: Group) -> Stepped
+    ensures { λ r. ⌜ r ≡ refused code group ⌝ }
+{
+    Stepped {
+        code,
+        said: Said::Nothing,
+        steps: 0,
+        group,
+    }
+}
+
+// What the step of one of its looms comes to in a group.
+fn settled(group: Group, at: usize, outcome: Outcome) -> Stepped
+    requires { ⌜ at < edition .looms ⌝ }
+    ensures { λ r. ⌜ r ≡ settled group at outcome ⌝ }
+{
+    let code = outcome.code;
+    if code != 0 {
+        return refused(code, group);
+    }
+    let said = outcome.said;
+    let shared = outcome.shared;
+    let loom = outcome.loom;
+    let group = group.with_shared(shared).with_loom(at, loom);
+    Stepped {
+        code: 0,
+        said,
+        steps: loom.steps,
+        group,
+    }
+}
+
+// One step of a loom of a group. Refuses with 30 where there is no such loom or the group has more than 8, then with 32 where group and
+// table don't fit, then with 31 where the loom has answered; then the group is as it was given. No group is trusted.
+pub fn step(group: Group, table: &[u8], states: usize, operations: usize, loom: usize) -> Stepped
+    ensures { λ r. ⌜ r ≡ stepOf (now (table .entry)) states operations group loom ⌝ }
+{
+    if group.no_loom(loom) {
+        return refused(30, group);
+    }
+    let own = group.looms[loom];
+    let side = own.side;
+    let numbers = group.numbers;
+    let shared = group.shared;
+    let outcome = step_on(
+        group.lead(),
+        numbers.of(side),
+        table,
+        states,
+        operations,
+        shared,
+        own,
+    );
+    settled(group, loom, outcome)
+}
+
+// A restart of one loom, in any place. Refuses with 30 where there is no such loom or the group has more than 8.
+pub fn restart(group: Group, loom: usize) -> Restarted
+    ensures { λ r. ⌜ r ≡ restartOf group loom ⌝ }
+{
+    if group.no_loom(loom) {
+        return Restarted { code: 30, group };
+    }
+    let group = group.restarted_at(loom);
+    Restarted { code: 0, group }
+}
+
+// A restart of every loom of a group. Refuses with 30 where the group has more than 8.
+pub fn restart_all(group: Group) -> Restarted
+    ensures { λ r. ⌜ r ≡ restartAllOf group ⌝ }
+{
+    if cell::LOOMS < group.count {
+        return Restarted { code: 30, group };
+    }
+    let group = restarted_below(group, group.count);
+    Restarted { code: 0, group }
+}
+
+// The group with its looms below a number restarted.
+fn restarted_below(group: Group, count: usize) -> Group
+    requires { ⌜ count ≤ edition .looms ⌝ }
+    ensures { λ r. ⌜ r ≡ restartedBelow group count ⌝ }
+{
+    let mut out = group;
+    let mut i = 0;
+    while i < count {
+        let new = out.restarted_at(i);
+        out = new;
+        i += 1;
+    }
+    out
+}
