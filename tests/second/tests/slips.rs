@@ -9,40 +9,30 @@ use second::sets;
 use second::side::Side;
 use std::collections::HashSet;
 
-/// The sets where a loom may appear again and again, in orders of up to so many steps.
-fn sets_with_repeats(fitting: &Fitting, steps: usize) -> [u64; 2] {
-    let mut sets = [sets::EMPTY; 2];
-    for (first, seat) in fitting.certificate.looms().iter().enumerate() {
-        let mut reached = HashSet::from([(fitting.certificate.start, steps, Some(first))]);
-        while let Some(&at) = reached.iter().next() {
-            reached.remove(&at);
-            reached.extend(repeated_steps(fitting, at));
-            if at.2.is_none() {
-                sets[seat.side] = sets::inserted(sets[seat.side], at.0);
-            }
-        }
+/// Adds the states reached by up to so many looms more, any loom again and again.
+fn reach_with_repeats(fitting: &Fitting, state: usize, more: usize, set: &mut u64) {
+    *set = sets::inserted(*set, state);
+    for seat in fitting.certificate.looms().iter().filter(|_| more > 0) {
+        let next = fitting.cell().next(seat.operation, state).expect("it has form");
+        reach_with_repeats(fitting, next, more - 1, set);
     }
-    sets
 }
 
-/// One step on: by the loom that must come first, or by any.
-fn repeated_steps(
-    fitting: &Fitting,
-    (state, left, first): (usize, usize, Option<usize>),
-) -> Vec<(usize, usize, Option<usize>)> {
-    let looms = fitting.certificate.looms().iter().enumerate();
-    let allowed = looms.filter(|&(loom, _)| left > 0 && first.is_none_or(|first| first == loom));
-    allowed
-        .map(|(_, seat)| fitting.cell().next(seat.operation, state).expect("it has form"))
-        .map(|next| (next, left - 1, None))
-        .collect()
+/// The sets of A and B where a loom may appear again and again, in orders of up to five looms.
+fn sets_with_repeats(fitting: &Fitting) -> [u64; 2] {
+    let mut sets = [sets::EMPTY; 2];
+    for seat in fitting.certificate.looms() {
+        let first = fitting.cell().next(seat.operation, fitting.certificate.start);
+        reach_with_repeats(fitting, first.expect("it has form"), 4, &mut sets[seat.side]);
+    }
+    sets
 }
 
 #[test]
 fn a_loom_that_appears_twice_would_refuse_size_two() {
     let size_two = known::named("size 2");
     assert!(size_two.accepted());
-    let [a, b] = sets_with_repeats(&size_two, 4);
+    let [a, b] = sets_with_repeats(&size_two);
     assert_ne!(sets::shared(a, b), sets::EMPTY);
 }
 

@@ -3,10 +3,11 @@
 use super::asks::{self, pairs};
 use super::forged;
 use crate::session::{Go, Needs, Session, Stopped};
-use second::group::{self, Group, NO_GROUP};
+use second::group::{self, Group, Place, NO_GROUP};
 use second::inputs::dice::Dice;
 use second::inputs::fitting::Fitting;
 use second::inputs::{known, makers};
+use second::recording::Certificate;
 use second::side::{self, Side};
 use second::wire::calls;
 use second::wire::frame::Cursor;
@@ -28,6 +29,9 @@ pub fn lent_trials(session: &mut Session) -> Go {
 pub fn trials(session: &mut Session, function: u8) -> Go {
     session.trial("every place, side and reading of a small group", |session, _| {
         small_groups(session, function)
+    })?;
+    session.trial("states and sets at the edges of a word", |session, _| {
+        word_edges(session, function)
     })?;
     session.trial("every refusal of a step before every other", |session, _| {
         refusals(session, function)
@@ -85,6 +89,24 @@ fn small_memories(session: &mut Session, function: u8, fitting: &Fitting, group:
         group.sets = sets.into();
         group.registers = registers.into();
         ask_step(session, function, fitting, 0, &group)?;
+    }
+    Ok(())
+}
+
+/// None, all, and those of one state at an edge of the word.
+const EDGE_SETS: [u64; 6] = [0, u64::MAX, 1, 2, 1 << 62, 1 << 63];
+
+/// A start beyond the word is in no set, also where its low bits name a state that is.
+fn word_edges(session: &mut Session, function: u8) -> Go {
+    let certificate = Certificate::default();
+    let fitting = Fitting { table: (0..64).collect(), states: 64, operations: 1, certificate };
+    let starts = [0, 1, 62, 63, 64, 65, 126, 127, 128, 191, 192, 254, 255];
+    let memories = pairs(&pairs(&[0, 1, 62, 63], &starts), &pairs(&EDGE_SETS, &EDGE_SETS));
+    for (((cell, start), sets), place) in pairs(&memories, &[Place::Posted, Place::Applied]) {
+        let mut group = Group { count: 2, cell, start, sets: sets.into(), ..NO_GROUP };
+        group.looms[0].place = place;
+        group.looms[1].side = Side::B;
+        ask_step(session, function, &fitting, 0, &group)?;
     }
     Ok(())
 }
