@@ -1,3 +1,4 @@
 // What C programs call, for the tests and the benchmarks: each function is the library's, on numbers and lent slices alone.
 mod of_cell;
+mod of_group;
 mod of_sets;

@@ -84,11 +84,14 @@ impl Session {
         let mut dice = Dice::named(self.seed, name);
         let went = cases(self, &mut dice).and_then(|()| self.wait());
         let asked = self.tally.cases - before;
-        let wrong = match () {
-            () if self.differences > differed => "differs",
-            () if self.stopped => "the driver ended",
-            () if asked == 0 => "nothing ran",
-            () => "",
+        let wrong = if self.differences > differed {
+            "differs"
+        } else if self.stopped {
+            "the driver ended"
+        } else if asked == 0 {
+            "nothing ran"
+        } else {
+            ""
         };
         self.judge(&format!(" ({asked} cases)"), wrong);
         went
