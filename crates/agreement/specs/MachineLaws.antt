@@ -1,7 +1,7 @@
 -- Where a loom stands after an act.
 -- Assumes nothing.
 use Prim.Native.Nat.{ℕ, _≤_, _<_}
-use mathlib.Core.Path.{_≡_, refl}
+use mathlib.Core.Path.{_≡_, refl, sym, fun-ext}
 use mathlib.Core.Bool.{Bool, true, false, cond}
 use mathlib.Core.List.{List}
 use lib.Dec.{eqb, ltb}
@@ -9,9 +9,11 @@ use lib.ListN.{length}
 use borrow.Author.Tests.{eq-eqb, ne-eqb, lt-ltb, le-ltb}
 use Rattle.recording.specs.declared.Seat.{Seat}
 use Rattle.recording.specs.Recording.{operationAt}
-use Rattle.loom.specs.declared.Place.the-variants.{Begin}
+use Rattle.loom.specs.declared.Side.{Side}
+use Rattle.loom.specs.declared.Place.the-variants.{Begin, Answered}
 use Rattle.loom.specs.Turn.{Rules, turnOf}
-use Rattle.agreement.specs.Machine.{Act, step, restart, restartAll, State, sideOf, changedAt, turned, replaced, steppedFrom, stepped, acted}
+use Rattle.agreement.specs.Machine.{Act, step, restart, restartAll, State, sideOf, changedAt, withPost, withSaid, turned, replaced, steppedFrom, stepped, acted}
+use Rattle.agreement.specs.LogLaws.{changed-all}
 
 -- The changed one has its new value, and every other its own.
 pub changed-itself : {A : Type 0} (f : ℕ → A) (k : ℕ) (a : A) → changedAt f k a k ≡ a
@@ -55,3 +57,18 @@ module _ (next : ℕ → ℕ → ℕ) (looms : List Seat) (R : Rules) where
   pub place-unrestarted : (S : State) (j k : ℕ) → (k ≡ j → ⊥) → acted next looms R (restart j) S .place k ≡ S .place k
   unfolding acted
   place-unrestarted S j k apart = changed-other (S .place) j Begin k apart
+
+  -- A step of a loom that has answered changes nothing.
+  pub stepped-answered : (S : State) (k v : ℕ) (x : Side) → S .place k ≡ Answered x → acted next looms R (step k v) S ≡ S
+  unfolding acted stepped steppedFrom turned turnOf withPost withSaid
+  stepped-answered S k v x there = by-test (ltb k (length looms))
+    where
+      unchanged : (j : ℕ) → changedAt (S .place) k (Answered x) j ≡ S .place j
+      unchanged = changed-all (λ j p. p ≡ S .place j) (S .place) k (Answered x) (sym there) (λ j apart. refl)
+
+      stayed : steppedFrom next looms R k v (Answered x) S ≡ S
+      stayed = λ i. record { shared = S .shared; place = fun-ext unchanged i; log = S .log }
+
+      by-test : (b : Bool) → cond b (stepped next looms R k v S) S ≡ S
+      by-test true = rw there stayed
+      by-test false = refl
