@@ -1,18 +1,18 @@
 -- Demand 3, proved of the machine of looms, for any looms, any operations and any acts.
 -- Assumes nothing.
 use Prim.Native.Nat.{ℕ}
-use mathlib.Core.Path.{_≡_, refl, ap, sym, _∙_}
+use mathlib.Core.Path.{_≡_, ap, sym, _∙_}
 use mathlib.Core.List.{List, [], _∷_, _++_, append-assoc}
 use Rattle.recording.specs.declared.Seat.{Seat}
 use Rattle.loom.specs.declared.Side.{Side}
 use Rattle.loom.specs.Turn.{Rules}
-use Rattle.agreement.specs.Machine.{Event, posted, applied, answered, Act, step, restart, restartAll, EachStep, State, sideOf, after, opening}
-use Rattle.agreement.specs.Agreed.{Came, Had, NoneApplied, Settled, Agreed}
+use Rattle.agreement.specs.Machine.{Event, posted, applied, answered, Act, step, restart, restartAll, EachStep, sideOf, after, opening}
+use Rattle.agreement.specs.Agreed.{Came, Had, Settled, Agreed}
 use Rattle.agreement.specs.Fitted.{Fitted}
 use Rattle.agreement.specs.Phases.{Phase, fresh, even, first, Filled, AllFit, Phased, Holds}
 use Rattle.agreement.specs.PhasesLaws.{holds-opening, holds-after}
 use Rattle.agreement.specs.LogLaws.{fits-at}
-use Rattle.agreement.specs.Told.{AllTold, told-of-had, told-after}
+use Rattle.agreement.specs.Told.{told-of-had, told-after}
 
 -- Whatever was in the log before is in the log.
 pub had-of-came : (d e : Event) (older log : List Event) → Came e older log → Had d older → Had d log

@@ -8,13 +8,11 @@ use mathlib.Core.Logic.{inr}
 use mathlib.Core.List.{List, [], _∷_, _++_}
 use lib.Dec.{eqb}
 use borrow.Author.Tests.{eqb-true}
-use Rattle.recording.specs.declared.Seat.{Seat}
-use Rattle.recording.specs.Recording.{sideAt, operationAt, sideCount, InSet, Recording}
+use Rattle.recording.specs.Recording.{sideAt, InSet, Recording}
 use Rattle.loom.specs.declared.Side.{Side}
 use Rattle.loom.specs.declared.Side.the-variants.{A, B}
-use Rattle.loom.specs.Sides.{sideNumber, other}
-use Rattle.loom.specs.Turn.{Rules, turnOf, afterPosted, afterLooking}
-use Rattle.agreement.specs.Machine.{Event, posted, applied, answered, Act, step, restart, restartAll, EachStep, sideOf, changedAt, withPost, withSaid, turned, steppedFrom, stepped, acted, after, opening}
+use Rattle.loom.specs.Turn.{turnOf, afterPosted, afterLooking}
+use Rattle.agreement.specs.Machine.{posted, applied, answered, Act, restart, restartAll, EachStep, sideOf, changedAt, withPost, withSaid, turned, steppedFrom, stepped, acted, after}
 use Rattle.agreement.specs.Agreed.{Agreed}
 use Rattle.agreement.specs.Fitted.{Renders, Fitted}
 use Rattle.agreement.specs.Orders.{order-of-one, order-of-one-more}

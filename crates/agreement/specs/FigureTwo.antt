@@ -21,9 +21,9 @@ use Rattle.agreement.specs.MachineLaws.{changed-itself, changed-other}
 use Rattle.agreement.specs.Teams.{same-as-itself}
 use Rattle.agreement.specs.LogLaws.{changed-all}
 use Rattle.agreement.specs.Phases.{Filled}
-use Rattle.agreement.specs.Figure.{Team, teamA, teamB, Value, Line, Access, at5, at6, at8, at9, at11, at12, at16, at17, at19, at20, at22, at23, at26, at27, Process, running, returned, Objects, System, Setting, firstLine, access, withReturn, ahead, movedFrom, begun, moved, ran, initial}
+use Rattle.agreement.specs.Figure.{Team, teamA, teamB, Value, Access, at5, at6, at8, at9, at11, at12, at16, at17, at19, at20, at22, at23, at26, at27, Process, running, returned, Objects, System, Setting, firstLine, access, ahead, movedFrom, moved, ran, initial}
 use Rattle.agreement.specs.Matched.{teamOf, sideOfTeam, settingOf, placeAt, placeOf, answersOf, returnsOf, Matched}
-use Rattle.agreement.specs.MatchedLaws.{teamOfLine, teamOfAccess, InCode, ahead-in-code, Same, Equal, turn-is-access, answer-is-return}
+use Rattle.agreement.specs.MatchedLaws.{teamOfAccess, InCode, ahead-in-code, Same, Equal, turn-is-access, answer-is-return}
 
 -- The side of a side's team is that side.
 pub side-of-team : (L s : Side) → sideOfTeam L (teamOf L s) ≡ s

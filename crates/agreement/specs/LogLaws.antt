@@ -12,7 +12,7 @@ use Rattle.loom.specs.declared.Side.{Side}
 use Rattle.loom.specs.declared.Side.the-variants.{A, B}
 use Rattle.loom.specs.declared.Shared.{Shared}
 use Rattle.loom.specs.Sides.{other, register, withRegister, withCell}
-use Rattle.agreement.specs.Machine.{Event, posted, applied, answered, changedAt}
+use Rattle.agreement.specs.Machine.{Event, posted, applied, changedAt}
 use Rattle.agreement.specs.Agreed.{Came, Had, NoneApplied}
 use Rattle.agreement.specs.Teams.{either}
 use Rattle.agreement.specs.Phases.{Filled, Fits, AllFit, Honest}

@@ -4,7 +4,7 @@ use Prim.Native.Nat.{ℕ, _≤_, _<_}
 use mathlib.Core.Path.{_≡_, refl, sym, fun-ext}
 use mathlib.Core.Bool.{Bool, true, false, cond}
 use mathlib.Core.List.{List}
-use lib.Dec.{eqb, ltb}
+use lib.Dec.{ltb}
 use lib.ListN.{length}
 use borrow.Author.Tests.{eq-eqb, ne-eqb, lt-ltb, le-ltb}
 use Rattle.recording.specs.declared.Seat.{Seat}
@@ -12,7 +12,7 @@ use Rattle.recording.specs.Recording.{operationAt}
 use Rattle.loom.specs.declared.Side.{Side}
 use Rattle.loom.specs.declared.Place.the-variants.{Begin, Answered}
 use Rattle.loom.specs.Turn.{Rules, turnOf}
-use Rattle.agreement.specs.Machine.{Act, step, restart, restartAll, State, sideOf, changedAt, withPost, withSaid, turned, replaced, steppedFrom, stepped, acted}
+use Rattle.agreement.specs.Machine.{step, restart, State, sideOf, changedAt, withPost, withSaid, turned, steppedFrom, stepped, acted}
 use Rattle.agreement.specs.LogLaws.{changed-all}
 
 -- The changed one has its new value, and every other its own.

@@ -1,20 +1,17 @@
 -- Each turn of a loom is the step of Figure 2 at the line of its place.
 -- Assumes nothing.
 use Prim.Native.Nat.{ℕ, zero, suc}
-use native.Mathlib.Omega.{arith}
 use mathlib.Core.Path.{_≡_, refl, ap, sym, _∙_}
 use mathlib.Core.Bool.{Bool, true, false, cond}
 use mathlib.Core.Option.{none, some}
 use mathlib.Core.List.{List, _∷_}
 use lib.Dec.{eqb}
 use Rattle.recording.specs.declared.Seat.{Seat}
-use Rattle.recording.specs.Recording.{operationAt}
 use Rattle.loom.specs.declared.Side.{Side}
 use Rattle.loom.specs.declared.Side.the-variants.{A, B}
-use Rattle.loom.specs.declared.Place.{Place}
-use Rattle.loom.specs.declared.Place.the-variants.{Begin, Posted, Looking, Ready, Applied, Bound, Answered}
+use Rattle.loom.specs.declared.Place.the-variants.{Looking, Ready, Bound}
 use Rattle.loom.specs.declared.Shared.{Shared}
-use Rattle.loom.specs.Sides.{other, sameSide, register, withRegister, withCell}
+use Rattle.loom.specs.Sides.{other, sameSide, register, withCell}
 use Rattle.loom.specs.Turn.{Rules, Turn, turnOf, pickPlace, pickSide, decided, both, looks, afterPosted, afterLooking}
 use Rattle.agreement.specs.Machine.{Event, withPost, withSaid}
 use Rattle.agreement.specs.Teams.{other-other, same-as-itself}

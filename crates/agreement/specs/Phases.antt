@@ -3,7 +3,7 @@
 --   even       where the cell is at the start again, or still, and the leading side can no longer lose;
 --   first X us where the looms `us`, each once, a loom of X first, have taken the cell away from the start.
 -- Assumes nothing.
-use Prim.Native.Nat.{ℕ, zero, suc, _<_}
+use Prim.Native.Nat.{ℕ, _<_}
 use mathlib.Core.Path.{_≡_}
 use mathlib.Core.Bool.{Bool, true, false}
 use mathlib.Core.List.{List, [], _∷_}
@@ -18,7 +18,7 @@ use Rattle.loom.specs.declared.Shared.{Shared}
 use Rattle.loom.specs.Sides.{sideNumber, other, register}
 use Rattle.loom.specs.Turn.{Rules}
 use Rattle.agreement.specs.Machine.{Event, posted, applied, answered, State, sideOf}
-use Rattle.agreement.specs.Agreed.{Came, Had, NoneApplied}
+use Rattle.agreement.specs.Agreed.{Had, NoneApplied}
 
 pub data Phase : Type 0 where
   fresh : Phase

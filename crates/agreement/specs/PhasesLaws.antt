@@ -6,24 +6,24 @@ use mathlib.Core.Path.{_≡_, refl, ap, sym, _∙_}
 use mathlib.Core.Bool.{Bool, true, false, cond}
 use mathlib.Core.Logic.{_⊎_, inl, inr}
 use mathlib.Core.List.{List, [], _∷_, _++_}
-use lib.Dec.{T, eqb, ltb}
+use lib.Dec.{eqb, ltb}
 use lib.ListN.{length}
 use borrow.Author.Tests.{eqb-true, eqb-false, eq-eqb, ne-eqb, ltb-true}
 use Rattle.recording.specs.declared.Seat.{Seat}
-use Rattle.recording.specs.Recording.{operationAt, sideCount, times, FirstIs, Order, reached, InSet}
+use Rattle.recording.specs.Recording.{operationAt, sideCount, times, Order, reached, InSet}
 use Rattle.loom.specs.declared.Side.{Side}
 use Rattle.loom.specs.declared.Side.the-variants.{A, B}
 use Rattle.loom.specs.declared.Place.{Place}
 use Rattle.loom.specs.declared.Place.the-variants.{Begin, Posted, Looking, Ready, Applied, Bound, Answered}
 use Rattle.loom.specs.declared.Shared.{Shared}
 use Rattle.loom.specs.Sides.{sideNumber, other, sameSide, register, withRegister, withCell}
-use Rattle.loom.specs.Turn.{Rules, Turn, turnOf, pickSide, pickPlace, decided, both, looks, afterPosted, afterLooking}
+use Rattle.loom.specs.Turn.{Rules, turnOf, pickPlace, decided, both, looks, afterPosted, afterLooking}
 use Rattle.agreement.specs.Machine.{Event, posted, applied, answered, Act, step, restart, restartAll, EachStep, State, sideOf, changedAt, withPost, withSaid, turned, replaced, steppedFrom, stepped, acted, after, opening}
-use Rattle.agreement.specs.Agreed.{Had, NoneApplied}
-use Rattle.agreement.specs.Fitted.{Renders, Fitted}
-use Rattle.agreement.specs.Orders.{order-of-one, order-of-one-more, reached-by-one-more, not-in-one-more, not-itself}
-use Rattle.agreement.specs.Teams.{either, other-other, not-other, same-side, same-as-itself, side-number, start-or-alone, every-loom-appears, decides, one-yields, leads-without}
-use Rattle.agreement.specs.Phases.{Phase, fresh, even, first, Filled, AllFit, Honest, Wins, MayApply, MayLook, MayRead, Stands, Begun, Fresh, Even, First, Phased, Holds}
+use Rattle.agreement.specs.Agreed.{NoneApplied}
+use Rattle.agreement.specs.Fitted.{Fitted}
+use Rattle.agreement.specs.Orders.{order-of-one, order-of-one-more, reached-by-one-more, not-in-one-more}
+use Rattle.agreement.specs.Teams.{either, other-other, same-side, same-as-itself, side-number, start-or-alone, every-loom-appears, decides, one-yields, leads-without}
+use Rattle.agreement.specs.Phases.{Phase, fresh, even, first, Filled, AllFit, Honest, Wins, MayApply, MayLook, MayRead, Stands, Begun, Fresh, First, Phased, Holds}
 use Rattle.agreement.specs.LogLaws.{had-nothing, had-latest, had-still, none-applied-by-post, still-applied, cell-kept, register-written, register-untouched, filled-still, honest-post, honest-application, changed-all}
 
 module _ {next : ℕ → ℕ → ℕ} {looms : List Seat} {start : ℕ} {R : Rules} (given : Fitted next looms start R) where

@@ -2,10 +2,10 @@
 -- Assumes nothing.
 use Prim.Native.Nat.{ℕ, zero, suc, _+_, _≤_, _<_, min}
 use native.Mathlib.Omega.{arith}
-use mathlib.Core.Path.{_≡_, refl, ap, sym, _∙_}
+use mathlib.Core.Path.{_≡_, refl, sym}
 use mathlib.Core.Bool.{Bool, true, false, cond}
 use mathlib.Core.List.{List, [], _∷_}
-use lib.Dec.{T, eqb, ltb, eqb-refl}
+use lib.Dec.{eqb, ltb, eqb-refl}
 use lib.ListN.{length}
 use borrow.Author.Tests.{eqb-true, eqb-false, ltb-true, ltb-false, lt-ltb}
 use Rattle.recording.specs.declared.Seat.{Seat}
@@ -16,10 +16,10 @@ use Rattle.loom.specs.declared.Place.the-variants.{Begin, Posted, Looking, Read
 use Rattle.loom.specs.declared.Shared.{Shared}
 use Rattle.loom.specs.Sides.{other, register}
 use Rattle.loom.specs.Turn.{Rules, turnOf, pickPlace, decided, both, looks, afterPosted, afterLooking}
-use Rattle.agreement.specs.Machine.{Event, answered, Act, step, restart, restartAll, State, sideOf, changedAt, withPost, withSaid, turned, replaced, steppedFrom, stepped, acted, after, opening}
+use Rattle.agreement.specs.Machine.{Event, answered, Act, step, restart, restartAll, State, sideOf, withPost, withSaid, turned, steppedFrom, stepped, acted, after}
 use Rattle.agreement.specs.Agreed.{Had}
 use Rattle.agreement.specs.LogLaws.{had-latest, had-still, changed-all}
-use Rattle.agreement.specs.MachineLaws.{stepped-no-loom, place-stepped, place-unstepped, place-restarted, place-unrestarted}
+use Rattle.agreement.specs.MachineLaws.{stepped-no-loom, place-stepped, place-unstepped, place-unrestarted}
 use Rattle.agreement.specs.Steps.{stepsOf, Unrestarted, unanswered, zeroIf, counted, countAfter}
 
 -- How far a loom has come.

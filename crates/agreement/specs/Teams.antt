@@ -3,19 +3,19 @@
 use Prim.Native.Nat.{ℕ, zero, suc, _≤_, _<_}
 use native.Mathlib.Nat.{le-of-suc-le-suc, not-suc-le-zero}
 use native.Mathlib.Omega.{arith}
-use mathlib.Core.Path.{_≡_, refl, ap, sym, _∙_, subst}
+use mathlib.Core.Path.{_≡_, refl, ap, sym, _∙_}
 use mathlib.Core.Bool.{Bool, true, false}
 use mathlib.Core.Logic.{_⊎_, inl, inr}
 use mathlib.Core.List.{List, [], _∷_, _++_}
 use lib.ListN.{length}
 use Rattle.recording.specs.declared.Seat.{Seat}
-use Rattle.recording.specs.Recording.{sideAt, operationAt, sideCount, times, Order, reached, InSet, Recording}
+use Rattle.recording.specs.Recording.{sideAt, operationAt, sideCount, times, Order, reached, InSet}
 use Rattle.loom.specs.declared.Side.{Side}
 use Rattle.loom.specs.declared.Side.the-variants.{A, B}
 use Rattle.loom.specs.Sides.{sideNumber, sideFrom, other, sameSide}
 use Rattle.loom.specs.Turn.{Rules, decided, pickSide}
 use Rattle.agreement.specs.Machine.{sideOf}
-use Rattle.agreement.specs.Fitted.{Renders, Fitted}
+use Rattle.agreement.specs.Fitted.{Fitted}
 use Rattle.agreement.specs.Orders.{order-of-one, order-of-one-more, reached-by-one-more, loom-of-order, lone}
 
 -- There are two sides.
