@@ -32,6 +32,7 @@ side-of-team A B = refl
 side-of-team B A = refl
 side-of-team B B = refl
 
+-- The other side is another side.
 pub other-is-another : (L : Side) → sameSide (other L) L ≡ false
 other-is-another A = refl
 other-is-another B = refl
@@ -42,6 +43,7 @@ unfolding ahead
 place-of-first L G teamA = refl
 place-of-first L G teamB = refl
 
+-- Either team's first line is in its code.
 pub code-of-first : (X : Team) → InCode X (running (firstLine X) none)
 code-of-first teamA = refl
 code-of-first teamB = refl
@@ -120,6 +122,7 @@ module _ (next : ℕ → ℕ → ℕ) (looms : List Seat) (R : Rules) where
             answers = joined .answers;
           }
 
+  -- Every act keeps the two machines in one state, and so does every list of acts.
   pub joined-acted : (a : Act) (acts : List Act) (S : State) (F : System) → EachStep (λ k v. Filled v) (a ∷ acts) → Joined S F →
       Joined (acted next looms R a S) (moved (settingOf next looms R) a F)
   unfolding acted moved stepped
@@ -158,6 +161,7 @@ module _ (next : ℕ → ℕ → ℕ) (looms : List Seat) (R : Rules) where
   joined-after (restart k ∷ acts) S F filled joined = joined-after acts _ _ filled (joined-acted (restart k) acts S F filled joined)
   joined-after (restartAll ∷ acts) S F filled joined = joined-after acts _ _ filled (joined-acted restartAll acts S F filled joined)
 
+  -- They open in one state.
   pub joined-opening : Joined (opening (R .start)) (initial (settingOf next looms R))
   unfolding answersOf returnsOf
   joined-opening =

@@ -60,10 +60,12 @@ pub cell-kept : (m : Shared) (s : Side) (v : ℕ) → withRegister m s v .cell �
 cell-kept m A v = refl
 cell-kept m B v = refl
 
+-- The register of the side holds the number.
 pub register-written : (m : Shared) (s : Side) (v : ℕ) → register (withRegister m s v) s ≡ v
 register-written m A v = refl
 register-written m B v = refl
 
+-- The other register holds what it held.
 pub register-kept : (m : Shared) (s : Side) (v : ℕ) → register (withRegister m s v) (other s) ≡ register m (other s)
 register-kept m A v = refl
 register-kept m B v = refl
@@ -76,6 +78,7 @@ filled-still m s v some x old = by-side (either x s)
     by-side (inl e) none = some (sym (register-written m s v) ∙ rw e at none)
     by-side (inr e) none = old (rw e (sym (register-kept m s v) ∙ rw e at none))
 
+-- What the registers hold after a post was posted.
 pub honest-post : (k : ℕ) (m : Shared) (s : Side) (v : ℕ) (log : List Event) → Honest m log → Honest (withRegister m s v) (posted k s v ∷ log)
 honest-post k m s v log old x full = by-side (either x s)
   where
@@ -90,6 +93,7 @@ pub register-untouched : (m : Shared) (q : ℕ) (x : Side) → register (withCel
 register-untouched m q A = refl
 register-untouched m q B = refl
 
+-- What the registers hold after an application was posted.
 pub honest-application : (k : ℕ) (s : Side) (m : Shared) (q : ℕ) (log : List Event) → Honest m log → Honest (withCell m q) (applied k s ∷ log)
 honest-application k s m q log old x full =
     let was = old x (rw (register-untouched m q x) at full) in

@@ -84,6 +84,7 @@ module _ (next : ℕ → ℕ → ℕ) (looms : List Seat) (R : Rules) where
   unfoldable pub steppedFrom : ℕ → ℕ → Place → State → State
   steppedFrom k v p S = turned k (sideOf looms k) v p (turnOf R (sideOf looms k) v (next (operationAt looms k)) (S .shared) p) S
 
+  -- One step of loom k.
   unfoldable pub stepped : ℕ → ℕ → State → State
   stepped k v S = steppedFrom k v (S .place k) S
 

@@ -30,6 +30,7 @@ module _ (next : ℕ → ℕ → ℕ) (looms : List Seat) (R : Rules) where
   unfolding acted
   stepped-no-loom S k v past = rw (le-ltb k (length looms) past)
 
+  -- A step of a loom of the group is its turn.
   pub stepped-loom : (S : State) (k v : ℕ) → k < length looms → acted next looms R (step k v) S ≡ stepped next looms R k v S
   unfolding acted
   stepped-loom S k v here = rw (lt-ltb k (length looms) here)

@@ -61,10 +61,12 @@ abbrev pub Proper : Value → Type 0
 Proper none = Unit {0}
 Proper (some v) = Filled v
 
+-- Of two lines of one team, either is of that team.
 pub team-of-pick : (b : Bool) (X : Team) (x y : Access) → teamOfAccess x ≡ X → teamOfAccess y ≡ X → teamOfAccess (cond b x y) ≡ X
 team-of-pick true X x y hx hy = hx
 team-of-pick false X x y hx hy = hy
 
+-- The place of one of two lines.
 pub place-of-pick : (L : Side) (b : Bool) (x y : Access) → placeAt L (cond b x y) ≡ pickPlace b (placeAt L x) (placeAt L y)
 place-of-pick L true x y = refl
 place-of-pick L false x y = refl

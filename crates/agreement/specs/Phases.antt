@@ -20,6 +20,7 @@ use Rattle.loom.specs.Turn.{Rules}
 use Rattle.agreement.specs.Machine.{Event, posted, applied, answered, State, sideOf}
 use Rattle.agreement.specs.Agreed.{Had, NoneApplied}
 
+-- The phases.
 pub data Phase : Type 0 where
   fresh : Phase
   even : Phase
@@ -35,6 +36,7 @@ Fits X (posted k s v) older = Unit {0}
 Fits X (applied k s) older = NoneApplied older → s ≡ X
 Fits X (answered k s v) older = (s ≡ X) × ((j : ℕ) × Had (posted j s v) older)
 
+-- Every event fits.
 abbrev pub AllFit : Side → List Event → Type 0
 AllFit X [] = Unit {0}
 AllFit X (e ∷ older) = Fits X e older × AllFit X older
@@ -92,17 +94,20 @@ module _ (next : ℕ → ℕ → ℕ) (looms : List Seat) (start : ℕ) (R : Rul
   abbrev pub Begun : Shared → ℕ → Place → Type 0
   Begun m k p = T (begun p) → (k < length looms) × Filled (register m (sideOf looms k))
 
+  -- Fresh: the cell is at the start and no loom has applied its operation.
   pub record Fresh (m : Shared) (log : List Event) : Type 0 where
     pub at-start : m .cell ≡ start
     pub unapplied : NoneApplied log
     pub fit : (X : Side) → AllFit X log
 
+  -- Even: the cell is at the start, the leading side has posted, and the yielding side has one loom.
   pub record Even (m : Shared) (log : List Event) : Type 0 where
     pub at-start : m .cell ≡ start
     pub led : Filled (register m (R .leading))
     pub alone : R .yieldsAlone ≡ true
     pub fit : AllFit (R .leading) log
 
+  -- First: the cell is where the looms `us` have taken it, a loom of X first.
   pub record First (X : Side) (us : List ℕ) (m : Shared) (log : List Event) : Type 0 where
     pub reaches : m .cell ≡ reached next looms start us
     pub order : Order looms (sideNumber X) us

@@ -32,6 +32,7 @@ rank Applied = 4
 rank (Bound x) = 5
 rank (Answered x) = 6
 
+-- The highest rank is six: answered.
 pub rank-at-most-six : (p : Place) → rank p ≤ 6
 rank-at-most-six Begin = omega arith
 rank-at-most-six Posted = omega arith
@@ -50,10 +51,12 @@ answered-at-six Applied high = absurd (omega arith)
 answered-at-six (Bound x) high = absurd (omega arith)
 answered-at-six (Answered x) high = (x, refl)
 
+-- The rank of one of two places.
 pub rank-of-pick : (b : Bool) (p q : Place) (n : ℕ) → n ≤ rank p → n ≤ rank q → n ≤ rank (pickPlace b p q)
 rank-of-pick true p q n low high = low
 rank-of-pick false p q n low high = high
 
+-- A loom that has looked has come farther.
 pub rank-after-looking : (s : Side) (w : ℕ) → 3 ≤ rank (afterLooking s w)
 unfolding afterLooking
 rank-after-looking s zero = omega arith
@@ -148,6 +151,7 @@ Spoken log k Applied = Unit {0}
 Spoken log k (Bound x) = Unit {0}
 Spoken log k (Answered x) = (v : ℕ) × Had (answered k x v) log
 
+-- What was said stays said.
 pub spoken-still : (e : Event) (log : List Event) (k : ℕ) (p : Place) → Spoken log k p → Spoken (e ∷ log) k p
 spoken-still e log k Begin said = tt
 spoken-still e log k Posted said = tt
@@ -173,6 +177,7 @@ spoken-looked s zero log k = tt
 spoken-looked s (suc w) log k = tt
 
 module _ (next : ℕ → ℕ → ℕ) (looms : List Seat) (R : Rules) where
+  -- Every step, and every list of acts, keeps it so.
   pub spoken-stepped : (S : State) (k v : ℕ) (p : Place) → Spoken (S .log) k p → ((j : ℕ) → Spoken (S .log) j (S .place j)) →
       (j : ℕ) → Spoken (steppedFrom next looms R k v p S .log) j (steppedFrom next looms R k v p S .place j)
   unfolding steppedFrom turned turnOf withPost withSaid

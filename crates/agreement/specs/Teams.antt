@@ -25,14 +25,12 @@ either A B = inr refl
 either B A = inr refl
 either B B = inl refl
 
+-- The other side of the other side is the side.
 pub other-other : (s : Side) → other (other s) ≡ s
 other-other A = refl
 other-other B = refl
 
-pub not-other : (s : Side) → s ≡ other s → ⊥
-not-other A e = let z : _≡_ {A = ℕ} 0 1 = cc in omega arith
-not-other B e = let z : _≡_ {A = ℕ} 0 1 = cc in omega arith
-
+-- The test for one side.
 pub same-side : (s t : Side) → sameSide s t ≡ true → s ≡ t
 same-side A A e = refl
 same-side A B e = cc
@@ -43,6 +41,7 @@ pub same-as-itself : (s : Side) → sameSide s s ≡ true
 same-as-itself A = refl
 same-as-itself B = refl
 
+-- A side's number and a number's side.
 pub number-of-side : (n : ℕ) → n ≤ 1 → n ≡ sideNumber (sideFrom n)
 number-of-side zero h = refl
 number-of-side (suc zero) h = refl

@@ -25,6 +25,7 @@ below-of-order looms X us order u present = by-cases (decLt u (length looms))
     by-cases (yes here) = here
     by-cases (no past) = absurd (present (order .looms-of-it u (omega arith)))
 
+-- Whoever is in a sequence at most once is in the rest of it at most once.
 pub once-of-tail : (u w : ℕ) (us : List ℕ) → times u (w ∷ us) ≤ 1 → times u us ≤ 1
 once-of-tail u w us once = omega arith
 
