@@ -5,15 +5,15 @@ use native.Mathlib.Omega.{arith}
 use mathlib.Core.Path.{_≡_, refl, ap, sym, _∙_}
 use mathlib.Core.Bool.{Bool, true, false, cond}
 use mathlib.Core.Logic.{_⊎_, inl, inr}
-use mathlib.Core.List.{List, [], _∷_, _++_}
+use mathlib.Core.List.{List, [], _∷_, _++_, append-assoc}
 use lib.Dec.{eqb}
 use borrow.Author.Tests.{eqb-true, eqb-false}
 use Rattle.loom.specs.declared.Side.{Side}
 use Rattle.loom.specs.declared.Side.the-variants.{A, B}
 use Rattle.loom.specs.declared.Shared.{Shared}
 use Rattle.loom.specs.Sides.{other, register, withRegister, withCell}
-use Rattle.agreement.specs.Machine.{Event, posted, applied, changedAt}
-use Rattle.agreement.specs.Agreed.{Came, Had, NoneApplied}
+use Rattle.agreement.specs.Machine.{Event, posted, applied, answered, changedAt}
+use Rattle.agreement.specs.Agreed.{Came, Had, NoneApplied, Settled}
 use Rattle.agreement.specs.Teams.{either}
 use Rattle.agreement.specs.Phases.{Filled, Fits, AllFit, Honest}
 
@@ -54,6 +54,23 @@ fits-at X e older log fit (later, same) = within later (rw same at fit)
     within : (later : List Event) → AllFit X (later ++ (e ∷ older)) → Fits X e older
     within [] all = all .0
     within (d ∷ later) all = within later (all .1)
+
+-- Whatever was in the log before is in the log.
+pub had-of-came : (d e : Event) (older log : List Event) → Came e older log → Had d older → Had d log
+had-of-came d e older log (later, same) (oldest, (middle, inside)) =
+    (oldest, (later ++ (e ∷ middle), same ∙ ap (λ l. later ++ (e ∷ l)) inside ∙ sym (append-assoc later (e ∷ middle) (d ∷ oldest))))
+
+-- A log that fits one side is settled.
+pub settled-by : (X : Side) (log : List Event) → AllFit X log → Settled log
+settled-by X log fit =
+    record {
+      one-side = λ i j s t v w one two. names i s v one ∙ sym (names j t w two);
+      posted-before = λ i s v older came. fits-at X (answered i s v) older log fit came .1;
+      first-applied = λ k s older came none i t v had. names i t v had ∙ sym (fits-at X (applied k s) older log fit came none);
+    }
+  where
+    names : (i : ℕ) (s : Side) (v : ℕ) → Had (answered i s v) log → s ≡ X
+    names i s v (older, came) = fits-at X (answered i s v) older log fit came .0
 
 -- A post writes one register, and not the cell.
 pub cell-kept : (m : Shared) (s : Side) (v : ℕ) → withRegister m s v .cell ≡ m .cell

@@ -3,7 +3,7 @@
 use Prim.Native.Nat.{ℕ, _≤_, _<_}
 use mathlib.Core.Path.{_≡_, refl, sym, fun-ext}
 use mathlib.Core.Bool.{Bool, true, false, cond}
-use mathlib.Core.List.{List}
+use mathlib.Core.List.{List, [], _∷_}
 use lib.Dec.{ltb}
 use lib.ListN.{length}
 use borrow.Author.Tests.{eq-eqb, ne-eqb, lt-ltb, le-ltb}
@@ -12,8 +12,15 @@ use Rattle.recording.specs.Recording.{operationAt}
 use Rattle.loom.specs.declared.Side.{Side}
 use Rattle.loom.specs.declared.Place.the-variants.{Begin, Answered}
 use Rattle.loom.specs.Turn.{Rules, turnOf}
-use Rattle.agreement.specs.Machine.{step, restart, State, sideOf, changedAt, withPost, withSaid, turned, steppedFrom, stepped, acted}
+use Rattle.agreement.specs.Machine.{Act, step, restart, restartAll, EachStep, State, sideOf, changedAt, withPost, withSaid, turned, steppedFrom, stepped, acted}
 use Rattle.agreement.specs.LogLaws.{changed-all}
+
+-- The acts are the same acts with less said of their numbers.
+pub each-step-weaker : (P Q : ℕ → ℕ → Type 0) → ((k v : ℕ) → P k v → Q k v) → (acts : List Act) → EachStep P acts → EachStep Q acts
+each-step-weaker P Q weaker [] all = tt
+each-step-weaker P Q weaker (step k v ∷ acts) all = (weaker k v (all .0), each-step-weaker P Q weaker acts (all .1))
+each-step-weaker P Q weaker (restart k ∷ acts) all = each-step-weaker P Q weaker acts all
+each-step-weaker P Q weaker (restartAll ∷ acts) all = each-step-weaker P Q weaker acts all
 
 -- The changed one has its new value, and every other its own.
 pub changed-itself : {A : Type 0} (f : ℕ → A) (k : ℕ) (a : A) → changedAt f k a k ≡ a

@@ -23,7 +23,7 @@ use Rattle.agreement.specs.Agreed.{NoneApplied}
 use Rattle.agreement.specs.Fitted.{Fitted}
 use Rattle.agreement.specs.Orders.{order-of-one, order-of-one-more, reached-by-one-more, not-in-one-more}
 use Rattle.agreement.specs.Teams.{either, other-other, same-side, same-as-itself, side-number, start-or-alone, every-loom-appears, decides, one-yields, leads-without}
-use Rattle.agreement.specs.Phases.{Phase, fresh, even, first, Filled, AllFit, Honest, Wins, MayApply, MayLook, MayRead, Stands, Begun, Fresh, First, Phased, Holds}
+use Rattle.agreement.specs.Phases.{Phase, fresh, even, first, Filled, AllFit, Honest, Wins, MayApply, MayLook, MayRead, Stands, Begun, First, Phased, Holds}
 use Rattle.agreement.specs.LogLaws.{had-nothing, had-latest, had-still, none-applied-by-post, still-applied, cell-kept, register-written, register-untouched, filled-still, honest-post, honest-application, changed-all}
 
 module _ {next : ℕ → ℕ → ℕ} {looms : List Seat} {start : ℕ} {R : Rules} (given : Fitted next looms start R) where

@@ -97,8 +97,12 @@ module _ (next : ℕ → ℕ → ℕ) (looms : List Seat) (R : Rules) where
       one (both b (both (ltb k (length looms)) (unanswered (S .place k)))) + rank (S .place k) ≤ rank (acted next looms R (step j v) S .place k)
   rank-stepped S j v k true e = rw (eqb-true j k e) (by-test (ltb k (length looms)) refl)
     where
-      by-test : (b : Bool) → ltb k (length looms) ≡ b → one (both b (unanswered (S .place k))) + rank (S .place k) ≤ rank (acted next looms R (step k v) S .place k)
-      by-test true here = rw (place-stepped next looms R S k v (ltb-true k (length looms) here)) (rank-rises R (sideOf looms k) v (next (operationAt looms k)) (S .shared) (S .place k))
+      by-test : (b : Bool) → ltb k (length looms) ≡ b →
+          one (both b (unanswered (S .place k))) + rank (S .place k) ≤ rank (acted next looms R (step k v) S .place k)
+      by-test true here =
+          rw
+          (place-stepped next looms R S k v (ltb-true k (length looms) here))
+          (rank-rises R (sideOf looms k) v (next (operationAt looms k)) (S .shared) (S .place k))
       by-test false past = rw (stepped-no-loom next looms R S k v (ltb-false k (length looms) past)) (omega arith)
   rank-stepped S j v k false e = rw (place-unstepped next looms R S j v k (λ same. eqb-false j k e (sym same))) (omega arith)
 
