@@ -6,14 +6,14 @@ use mathlib.Core.List.{List}
 use Rattle.recording.specs.declared.Seat.{Seat}
 use Rattle.loom.specs.declared.Side.{Side}
 use Rattle.loom.specs.Turn.{Rules}
-use Rattle.agreement.specs.Machine.{posted, answered, Act, EachStep, sideOf, after, opening}
+use Rattle.agreement.specs.Machine.{Filled, posted, answered, Act, EachStep, sideOf, after, opening}
 use Rattle.agreement.specs.Agreed.{Had, Settled, Agreed}
 use Rattle.agreement.specs.MachineLaws.{each-step-weaker}
 use Rattle.agreement.specs.Fitted.{Fitted}
-use Rattle.agreement.specs.Phases.{Phase, fresh, even, first, Filled, Phased, Holds}
+use Rattle.agreement.specs.Phases.{Phase, fresh, even, first, Phased, Holds}
 use Rattle.agreement.specs.PhasesLaws.{holds-opening, holds-after}
 use Rattle.agreement.specs.LogLaws.{had-of-came, settled-by}
-use Rattle.agreement.specs.Told.{told-of-had, told-after}
+use Rattle.agreement.specs.Told.{AllTold, told-of-had, told-after}
 
 module _ {next : ℕ → ℕ → ℕ} {looms : List Seat} {start : ℕ} {R : Rules} (given : Fitted next looms start R) where
   -- The winner. Whatever the acts and whatever numbers other than 0 the looms post, all answers name one side, with a number that a
@@ -39,16 +39,12 @@ module _ {next : ℕ → ℕ → ℕ} {looms : List Seat} {start : ℕ} {R : Rul
       won : Settled (after next looms R acts (opening start) .log)
       won = settled acts (each-step-weaker _ _ (λ k v e none. filled (sideOf looms k) (sym e ∙ none)) acts numbered)
 
+      truth : AllTold (λ k w. w ≡ num (sideOf looms k)) looms (after next looms R acts (opening start) .log)
+      truth = told-after next looms R (λ k w. w ≡ num (sideOf looms k)) acts (opening start) numbered tt
+
       its : (i : ℕ) (s : Side) (v : ℕ) → Had (answered i s v) (after next looms R acts (opening start) .log) → v ≡ num s
       its i s v (older, came) =
           let post = won .posted-before i s v older came in
-          let told =
-          told-of-had
-          (λ k w. w ≡ num (sideOf looms k))
-          looms
-          (posted (post .0) s v)
-          _
-          (told-after next looms R (λ k w. w ≡ num (sideOf looms k)) acts (opening start) numbered tt)
-          (had-of-came (posted (post .0) s v) (answered i s v) older _ came (post .1))
-          in
+          let had = had-of-came (posted (post .0) s v) (answered i s v) older _ came (post .1) in
+          let told = told-of-had (λ k w. w ≡ num (sideOf looms k)) looms (posted (post .0) s v) _ truth had in
           told .2 ∙ ap num (sym (told .1))

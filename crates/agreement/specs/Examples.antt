@@ -12,12 +12,11 @@ use Rattle.recording.specs.Recording.{sideAt, InSet, Recording}
 use Rattle.loom.specs.declared.Side.{Side}
 use Rattle.loom.specs.declared.Side.the-variants.{A, B}
 use Rattle.loom.specs.Turn.{turnOf, afterPosted, afterLooking}
-use Rattle.agreement.specs.Machine.{posted, applied, answered, Act, restart, restartAll, EachStep, sideOf, changedAt, withPost, withSaid, turned, steppedFrom, stepped, acted, after}
+use Rattle.agreement.specs.Machine.{Filled, posted, applied, answered, Act, restart, restartAll, EachStep, sideOf, changedAt, withPost, withSaid, turned, steppedFrom, stepped, acted, after}
 use Rattle.agreement.specs.Agreed.{Agreed}
 use Rattle.agreement.specs.Fitted.{Renders, Fitted}
 use Rattle.agreement.specs.Orders.{order-of-one, order-of-one-more}
 use Rattle.agreement.specs.TwoLooms.{set-of-two}
-use Rattle.agreement.specs.Phases.{Filled}
 use Rattle.agreement.specs.Agreement.{agreed}
 use Rattle.agreement.specs.Certificates.{numbers, steps, among, eventsOf, sticky, stickyRules, returns, returnsRules, pair}
 

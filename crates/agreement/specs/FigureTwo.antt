@@ -7,8 +7,7 @@ use mathlib.Core.List.{List}
 use Rattle.recording.specs.declared.Seat.{Seat}
 use Rattle.loom.specs.declared.Side.{Side}
 use Rattle.loom.specs.Turn.{Rules}
-use Rattle.agreement.specs.Machine.{Act, EachStep, after, opening}
-use Rattle.agreement.specs.Phases.{Filled}
+use Rattle.agreement.specs.Machine.{Filled, Act, EachStep, after, opening}
 use Rattle.agreement.specs.Figure.{Value, Access, Objects, access, ran, initial}
 use Rattle.agreement.specs.Matched.{settingOf, placeAt, Matched}
 use Rattle.agreement.specs.JoinedLaws.{joined-after, joined-opening, lineAt, line-at-its-place}
@@ -17,9 +16,7 @@ use Rattle.agreement.specs.MatchedLaws.{teamOfAccess}
 module _ (next : ℕ → ℕ → ℕ) (looms : List Seat) (R : Rules) where
   -- Whatever the acts, the looms and Figure 2's processes stay in the same state.
   pub figure-two : (acts : List Act) → EachStep (λ k v. Filled v) acts →
-      Matched
-      (R .leading)
-      (settingOf next looms R)
+      Matched (R .leading) (settingOf next looms R)
       (after next looms R acts (opening (R .start)))
       (ran (settingOf next looms R) acts (initial (settingOf next looms R)))
   figure-two acts filled =

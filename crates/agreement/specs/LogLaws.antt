@@ -12,10 +12,10 @@ use Rattle.loom.specs.declared.Side.{Side}
 use Rattle.loom.specs.declared.Side.the-variants.{A, B}
 use Rattle.loom.specs.declared.Shared.{Shared}
 use Rattle.loom.specs.Sides.{other, register, withRegister, withCell}
-use Rattle.agreement.specs.Machine.{Event, posted, applied, answered, changedAt}
+use Rattle.agreement.specs.Machine.{Filled, Event, posted, applied, answered, changedAt}
 use Rattle.agreement.specs.Agreed.{Came, Had, NoneApplied, Settled}
 use Rattle.agreement.specs.Teams.{either}
-use Rattle.agreement.specs.Phases.{Filled, Fits, AllFit, Honest}
+use Rattle.agreement.specs.Phases.{Fits, AllFit, Honest}
 
 -- Nothing is in an empty log.
 pub had-nothing : (e : Event) → Had e [] → ⊥

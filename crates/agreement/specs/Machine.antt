@@ -3,6 +3,7 @@
 -- posts what.
 -- Assumes nothing.
 use Prim.Native.Nat.{ℕ}
+use mathlib.Core.Path.{_≡_}
 use mathlib.Core.Bool.{cond}
 use mathlib.Core.List.{List, [], _∷_}
 use lib.Dec.{eqb, ltb}
@@ -17,6 +18,10 @@ use Rattle.loom.specs.declared.Said.{Said}
 use Rattle.loom.specs.declared.Said.the-variants.{Nothing, Application, Answer}
 use Rattle.loom.specs.Sides.{sideFrom}
 use Rattle.loom.specs.Turn.{Rules, Turn, turnOf}
+
+-- A number that can be posted: "0 means not posted".
+abbrev pub Filled : ℕ → Type 0
+Filled v = v ≡ 0 → ⊥
 
 -- What can be seen of a machine at work.
 pub data Event : Type 0 where

@@ -13,9 +13,8 @@ use Rattle.loom.specs.declared.Place.the-variants.{Looking, Ready, Bound}
 use Rattle.loom.specs.declared.Shared.{Shared}
 use Rattle.loom.specs.Sides.{other, sameSide, register, withCell}
 use Rattle.loom.specs.Turn.{Rules, Turn, turnOf, pickPlace, pickSide, decided, both, looks, afterPosted, afterLooking}
-use Rattle.agreement.specs.Machine.{Event, withPost, withSaid}
+use Rattle.agreement.specs.Machine.{Filled, Event, withPost, withSaid}
 use Rattle.agreement.specs.Teams.{other-other, same-as-itself}
-use Rattle.agreement.specs.Phases.{Filled}
 use Rattle.agreement.specs.LogLaws.{cell-kept, register-written, register-kept, register-untouched}
 use Rattle.agreement.specs.Figure.{Team, teamA, teamB, Value, Line, line5, line6, line7, line9, line11, line16, line17, line18, line20, line22, line23, line26, Access, at5, at6, at8, at9, at11, at12, at16, at17, at19, at20, at22, at23, at26, at27, Process, running, returned, Objects, Return, Done, Setting, test, afterLine19, access, withReturn, ahead}
 use Rattle.agreement.specs.Matched.{sideOfTeam, settingOf, number, placeAt, placeOf, Given, answersOf, returnsOf}

@@ -17,7 +17,7 @@ use Rattle.loom.specs.declared.Place.the-variants.{Begin, Posted, Looking, Read
 use Rattle.loom.specs.declared.Shared.{Shared}
 use Rattle.loom.specs.Sides.{sideNumber, other, register}
 use Rattle.loom.specs.Turn.{Rules}
-use Rattle.agreement.specs.Machine.{Event, posted, applied, answered, State, sideOf}
+use Rattle.agreement.specs.Machine.{Filled, Event, posted, applied, answered, State, sideOf}
 use Rattle.agreement.specs.Agreed.{Had, NoneApplied}
 
 -- The phases.
@@ -25,10 +25,6 @@ pub data Phase : Type 0 where
   fresh : Phase
   even : Phase
   first : Side → List ℕ → Phase
-
--- Something stands in the register: a number other than 0.
-abbrev pub Filled : ℕ → Type 0
-Filled v = v ≡ 0 → ⊥
 
 -- What a log says where X is to win: an answer names X and comes after a post of its number; the first application is of X.
 abbrev pub Fits : Side → Event → List Event → Type 0

@@ -18,12 +18,12 @@ use Rattle.loom.specs.declared.Place.the-variants.{Begin, Posted, Looking, Read
 use Rattle.loom.specs.declared.Shared.{Shared}
 use Rattle.loom.specs.Sides.{sideNumber, other, sameSide, register, withRegister, withCell}
 use Rattle.loom.specs.Turn.{Rules, turnOf, pickPlace, decided, both, looks, afterPosted, afterLooking}
-use Rattle.agreement.specs.Machine.{Event, posted, applied, answered, Act, step, restart, restartAll, EachStep, State, sideOf, changedAt, withPost, withSaid, turned, replaced, steppedFrom, stepped, acted, after, opening}
+use Rattle.agreement.specs.Machine.{Filled, Event, posted, applied, answered, Act, step, restart, restartAll, EachStep, State, sideOf, changedAt, withPost, withSaid, turned, replaced, steppedFrom, stepped, acted, after, opening}
 use Rattle.agreement.specs.Agreed.{NoneApplied}
 use Rattle.agreement.specs.Fitted.{Fitted}
 use Rattle.agreement.specs.Orders.{order-of-one, order-of-one-more, reached-by-one-more, not-in-one-more}
 use Rattle.agreement.specs.Teams.{either, other-other, same-side, same-as-itself, side-number, start-or-alone, every-loom-appears, decides, one-yields, leads-without}
-use Rattle.agreement.specs.Phases.{Phase, fresh, even, first, Filled, AllFit, Honest, Wins, MayApply, MayLook, MayRead, Stands, Begun, First, Phased, Holds}
+use Rattle.agreement.specs.Phases.{Phase, fresh, even, first, AllFit, Honest, Wins, MayApply, MayLook, MayRead, Stands, Begun, First, Phased, Holds}
 use Rattle.agreement.specs.LogLaws.{had-nothing, had-latest, had-still, none-applied-by-post, still-applied, cell-kept, register-written, register-untouched, filled-still, honest-post, honest-application, changed-all}
 
 module _ {next : ℕ → ℕ → ℕ} {looms : List Seat} {start : ℕ} {R : Rules} (given : Fitted next looms start R) where
