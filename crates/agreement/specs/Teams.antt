@@ -13,6 +13,7 @@ use Rattle.recording.specs.Recording.{sideAt, operationAt, sideCount, times, Or
 use Rattle.loom.specs.declared.Side.{Side}
 use Rattle.loom.specs.declared.Side.the-variants.{A, B}
 use Rattle.loom.specs.Sides.{sideNumber, sideFrom, other, sameSide}
+use Rattle.loom.specs.SidesLaws.{side-of-number}
 use Rattle.loom.specs.Turn.{Rules, decided, pickSide}
 use Rattle.agreement.specs.Machine.{sideOf}
 use Rattle.agreement.specs.Fitted.{Fitted}
@@ -41,15 +42,11 @@ pub same-as-itself : (s : Side) → sameSide s s ≡ true
 same-as-itself A = refl
 same-as-itself B = refl
 
--- A side's number and a number's side.
+-- A certificate's side number is its side's.
 pub number-of-side : (n : ℕ) → n ≤ 1 → n ≡ sideNumber (sideFrom n)
 number-of-side zero h = refl
 number-of-side (suc zero) h = refl
 number-of-side (suc (suc n)) h = absurd (not-suc-le-zero (le-of-suc-le-suc h))
-
-pub side-of-number : (s : Side) → sideFrom (sideNumber s) ≡ s
-side-of-number A = refl
-side-of-number B = refl
 
 module _ {next : ℕ → ℕ → ℕ} {looms : List Seat} {start : ℕ} {R : Rules} (given : Fitted next looms start R) where
   -- Loom k's number for its side.
