@@ -1,42 +1,19 @@
 -- Demand 3, proved of the machine of looms, for any looms, any operations and any acts.
 -- Assumes nothing.
 use Prim.Native.Nat.{ℕ}
-use mathlib.Core.Path.{_≡_, refl, ap, sym, _∙_}
-use mathlib.Core.List.{List, [], _∷_, _++_, append-assoc}
+use mathlib.Core.Path.{_≡_, ap, sym, _∙_}
+use mathlib.Core.List.{List}
 use Rattle.recording.specs.declared.Seat.{Seat}
 use Rattle.loom.specs.declared.Side.{Side}
 use Rattle.loom.specs.Turn.{Rules}
-use Rattle.agreement.specs.Machine.{Event, posted, applied, answered, Act, step, restart, restartAll, EachStep, State, sideOf, after, opening}
-use Rattle.agreement.specs.Agreed.{Came, Had, NoneApplied, Settled, Agreed}
+use Rattle.agreement.specs.Machine.{Filled, posted, answered, Act, EachStep, sideOf, after, opening}
+use Rattle.agreement.specs.Agreed.{Had, Settled, Agreed}
+use Rattle.agreement.specs.MachineLaws.{each-step-weaker}
 use Rattle.agreement.specs.Fitted.{Fitted}
-use Rattle.agreement.specs.Phases.{Phase, fresh, even, first, Filled, AllFit, Phased, Holds}
+use Rattle.agreement.specs.Phases.{Phase, fresh, even, first, Phased, Holds}
 use Rattle.agreement.specs.PhasesLaws.{holds-opening, holds-after}
-use Rattle.agreement.specs.LogLaws.{fits-at}
+use Rattle.agreement.specs.LogLaws.{had-of-came, settled-by}
 use Rattle.agreement.specs.Told.{AllTold, told-of-had, told-after}
-
--- Whatever was in the log before is in the log.
-pub had-of-came : (d e : Event) (older log : List Event) → Came e older log → Had d older → Had d log
-had-of-came d e older log (later, same) (oldest, (middle, inside)) =
-    (oldest, (later ++ (e ∷ middle), same ∙ ap (λ l. later ++ (e ∷ l)) inside ∙ sym (append-assoc later (e ∷ middle) (d ∷ oldest))))
-
--- The acts are the same acts with less said of their numbers.
-pub each-step-weaker : (P Q : ℕ → ℕ → Type 0) → ((k v : ℕ) → P k v → Q k v) → (acts : List Act) → EachStep P acts → EachStep Q acts
-each-step-weaker P Q weaker [] all = tt
-each-step-weaker P Q weaker (step k v ∷ acts) all = (weaker k v (all .0), each-step-weaker P Q weaker acts (all .1))
-each-step-weaker P Q weaker (restart k ∷ acts) all = each-step-weaker P Q weaker acts all
-each-step-weaker P Q weaker (restartAll ∷ acts) all = each-step-weaker P Q weaker acts all
-
--- A log that fits one side is settled.
-pub settled-by : (X : Side) (log : List Event) → AllFit X log → Settled log
-settled-by X log fit =
-    record {
-      one-side = λ i j s t v w one two. names i s v one ∙ sym (names j t w two);
-      posted-before = λ i s v older came. fits-at X (answered i s v) older log fit came .1;
-      first-applied = λ k s older came none i t v had. names i t v had ∙ sym (fits-at X (applied k s) older log fit came none);
-    }
-  where
-    names : (i : ℕ) (s : Side) (v : ℕ) → Had (answered i s v) log → s ≡ X
-    names i s v (older, came) = fits-at X (answered i s v) older log fit came .0
 
 module _ {next : ℕ → ℕ → ℕ} {looms : List Seat} {start : ℕ} {R : Rules} (given : Fitted next looms start R) where
   -- The winner. Whatever the acts and whatever numbers other than 0 the looms post, all answers name one side, with a number that a
@@ -47,7 +24,8 @@ module _ {next : ℕ → ℕ → ℕ} {looms : List Seat} {start : ℕ} {R : Rul
       known : Holds next looms start R (after next looms R acts (opening start))
       known = holds-after given acts (opening start) filled (holds-opening given)
 
-      by-phase : (phase : Phase) → Phased next looms start R phase (after next looms R acts (opening start) .shared) (after next looms R acts (opening start) .log) →
+      by-phase : (phase : Phase) →
+          Phased next looms start R phase (after next looms R acts (opening start) .shared) (after next looms R acts (opening start) .log) →
           Settled (after next looms R acts (opening start) .log)
       by-phase fresh facts = settled-by (R .leading) _ (facts .fit (R .leading))
       by-phase even facts = settled-by (R .leading) _ (facts .fit)
@@ -61,16 +39,12 @@ module _ {next : ℕ → ℕ → ℕ} {looms : List Seat} {start : ℕ} {R : Rul
       won : Settled (after next looms R acts (opening start) .log)
       won = settled acts (each-step-weaker _ _ (λ k v e none. filled (sideOf looms k) (sym e ∙ none)) acts numbered)
 
+      truth : AllTold (λ k w. w ≡ num (sideOf looms k)) looms (after next looms R acts (opening start) .log)
+      truth = told-after next looms R (λ k w. w ≡ num (sideOf looms k)) acts (opening start) numbered tt
+
       its : (i : ℕ) (s : Side) (v : ℕ) → Had (answered i s v) (after next looms R acts (opening start) .log) → v ≡ num s
       its i s v (older, came) =
           let post = won .posted-before i s v older came in
-          let told =
-          told-of-had
-          (λ k w. w ≡ num (sideOf looms k))
-          looms
-          (posted (post .0) s v)
-          _
-          (told-after next looms R (λ k w. w ≡ num (sideOf looms k)) acts (opening start) numbered tt)
-          (had-of-came (posted (post .0) s v) (answered i s v) older _ came (post .1))
-          in
+          let had = had-of-came (posted (post .0) s v) (answered i s v) older _ came (post .1) in
+          let told = told-of-had (λ k w. w ≡ num (sideOf looms k)) looms (posted (post .0) s v) _ truth had in
           told .2 ∙ ap num (sym (told .1))

@@ -50,6 +50,7 @@ eventsOf next looms R acts = after next looms R acts (opening (R .start)) .log
 abbrev pub sticky : ℕ → ℕ → ℕ
 sticky = operations (1 ∷ 1 ∷ 2 ∷ 2 ∷ 1 ∷ 2 ∷ []) 3
 
+-- Its rules.
 abbrev pub stickyRules : Rules
 stickyRules = record { start = 0; leading = A; inLeading = among (1 ∷ []); yieldsAlone = true }
 
@@ -57,6 +58,7 @@ stickyRules = record { start = 0; leading = A; inLeading = among (1 ∷ []); yie
 abbrev pub returns : ℕ → ℕ → ℕ
 returns = operations (1 ∷ 1 ∷ 2 ∷ 2 ∷ 0 ∷ 2 ∷ []) 3
 
+-- Its rules.
 abbrev pub returnsRules : Rules
 returnsRules = record { start = 0; leading = A; inLeading = among (0 ∷ 1 ∷ []); yieldsAlone = true }
 
@@ -81,6 +83,7 @@ threeExchanged = onB 0 ∷ onA 1 ∷ onA 1 ∷ []
 abbrev pub lateReturn : ℕ → ℕ → ℕ
 lateReturn = operations (1 ∷ 1 ∷ 2 ∷ 3 ∷ 2 ∷ 3 ∷ 2 ∷ 0 ∷ []) 4
 
+-- Its rules.
 abbrev pub lateReturnRules : Rules
 lateReturnRules = record { start = 0; leading = A; inLeading = among (0 ∷ 1 ∷ 3 ∷ []); yieldsAlone = false }
 
@@ -93,5 +96,6 @@ lateExchangedRules = record { start = 0; leading = B; inLeading = among (0 ∷ 1
 abbrev pub sizeTwo : ℕ → ℕ → ℕ
 sizeTwo = operations (2 ∷ 2 ∷ 0 ∷ 3 ∷ 1 ∷ 2 ∷ 3 ∷ 2 ∷ []) 4
 
+-- Its rules.
 abbrev pub sizeTwoRules : Rules
 sizeTwoRules = record { start = 2; leading = B; inLeading = among (0 ∷ 2 ∷ 3 ∷ []); yieldsAlone = true }

@@ -8,18 +8,15 @@ use mathlib.Core.Logic.{inr}
 use mathlib.Core.List.{List, [], _∷_, _++_}
 use lib.Dec.{eqb}
 use borrow.Author.Tests.{eqb-true}
-use Rattle.recording.specs.declared.Seat.{Seat}
-use Rattle.recording.specs.Recording.{sideAt, operationAt, sideCount, InSet, Recording}
+use Rattle.recording.specs.Recording.{sideAt, InSet, Recording}
 use Rattle.loom.specs.declared.Side.{Side}
 use Rattle.loom.specs.declared.Side.the-variants.{A, B}
-use Rattle.loom.specs.Sides.{sideNumber, other}
-use Rattle.loom.specs.Turn.{Rules, turnOf, afterPosted, afterLooking}
-use Rattle.agreement.specs.Machine.{Event, posted, applied, answered, Act, step, restart, restartAll, EachStep, sideOf, changedAt, withPost, withSaid, turned, steppedFrom, stepped, acted, after, opening}
+use Rattle.loom.specs.Turn.{turnOf, afterPosted, afterLooking}
+use Rattle.agreement.specs.Machine.{Filled, posted, applied, answered, Act, restart, restartAll, EachStep, sideOf, changedAt, withPost, withSaid, turned, steppedFrom, stepped, acted, after}
 use Rattle.agreement.specs.Agreed.{Agreed}
 use Rattle.agreement.specs.Fitted.{Renders, Fitted}
 use Rattle.agreement.specs.Orders.{order-of-one, order-of-one-more}
 use Rattle.agreement.specs.TwoLooms.{set-of-two}
-use Rattle.agreement.specs.Phases.{Filled}
 use Rattle.agreement.specs.Agreement.{agreed}
 use Rattle.agreement.specs.Certificates.{numbers, steps, among, eventsOf, sticky, stickyRules, returns, returnsRules, pair}
 
@@ -55,6 +52,7 @@ sticky-set-of-A = set-of-two sticky _ _ 0 0 (λ q. q ≡ 1) (λ e. (refl, refl))
 pub sticky-set-of-B : (q : ℕ) → InSet sticky pair 0 1 q → q ≡ 2
 sticky-set-of-B = set-of-two sticky _ _ 0 1 (λ q. q ≡ 2) (λ e. absurd (omega arith)) (λ e. (refl, refl))
 
+-- So sticky is recording, and its rules say so.
 pub sticky-recording : Recording sticky pair 0
 sticky-recording =
     record {
@@ -87,6 +85,7 @@ returns-set-of-A = set-of-two returns _ _ 0 0 (λ q. among (0 ∷ 1 ∷ []) q �
 pub returns-set-of-B : (q : ℕ) → InSet returns pair 0 1 q → q ≡ 2
 returns-set-of-B = set-of-two returns _ _ 0 1 (λ q. q ≡ 2) (λ e. absurd (omega arith)) (λ e. (refl, refl))
 
+-- So "returns" is recording, and its rules say so.
 pub returns-recording : Recording returns pair 0
 returns-recording =
     record {
@@ -128,7 +127,8 @@ unfolding eventsOf
 returns-agreed = agreed returns-fitted numbers numbers-filled
 
 -- On sticky, loom 1 applies first; after a restart of all, both looms answer B with its number.
-pub sticky-events : eventsOf sticky pair stickyRules (steps numbers pair (1 ∷ 1 ∷ 1 ∷ 0 ∷ 0 ∷ 1 ∷ 0 ∷ []) ++ (restartAll ∷ steps numbers pair (0 ∷ 0 ∷ 0 ∷ 1 ∷ 1 ∷ 1 ∷ []))) ≡
+pub sticky-events : eventsOf sticky pair stickyRules (steps numbers pair (1 ∷ 1 ∷ 1 ∷ 0 ∷ 0 ∷ 1 ∷ 0 ∷ []) ++
+    (restartAll ∷ steps numbers pair (0 ∷ 0 ∷ 0 ∷ 1 ∷ 1 ∷ 1 ∷ []))) ≡
     (answered 1 B 733 ∷ posted 1 B 733 ∷ answered 0 B 733 ∷ posted 0 A 501 ∷ applied 0 A ∷ applied 1 B ∷ posted 0 A 501 ∷ posted 1 B 733 ∷ [])
 unfolding eventsOf after acted stepped steppedFrom turned turnOf afterPosted afterLooking withPost withSaid changedAt
 sticky-events = refl

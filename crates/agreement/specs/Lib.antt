@@ -15,6 +15,7 @@ pub mod SixSteps
 pub mod Figure
 pub mod Matched
 pub mod MatchedLaws
+pub mod JoinedLaws
 pub mod FigureTwo
 pub mod Certificates
 pub mod TwoLooms

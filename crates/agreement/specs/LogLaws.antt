@@ -5,17 +5,17 @@ use native.Mathlib.Omega.{arith}
 use mathlib.Core.Path.{_≡_, refl, ap, sym, _∙_}
 use mathlib.Core.Bool.{Bool, true, false, cond}
 use mathlib.Core.Logic.{_⊎_, inl, inr}
-use mathlib.Core.List.{List, [], _∷_, _++_}
+use mathlib.Core.List.{List, [], _∷_, _++_, append-assoc}
 use lib.Dec.{eqb}
 use borrow.Author.Tests.{eqb-true, eqb-false}
 use Rattle.loom.specs.declared.Side.{Side}
 use Rattle.loom.specs.declared.Side.the-variants.{A, B}
 use Rattle.loom.specs.declared.Shared.{Shared}
 use Rattle.loom.specs.Sides.{other, register, withRegister, withCell}
-use Rattle.agreement.specs.Machine.{Event, posted, applied, answered, changedAt}
-use Rattle.agreement.specs.Agreed.{Came, Had, NoneApplied}
+use Rattle.agreement.specs.Machine.{Filled, Event, posted, applied, answered, changedAt}
+use Rattle.agreement.specs.Agreed.{Came, Had, NoneApplied, Settled}
 use Rattle.agreement.specs.Teams.{either}
-use Rattle.agreement.specs.Phases.{Filled, Fits, AllFit, Honest}
+use Rattle.agreement.specs.Phases.{Fits, AllFit, Honest}
 
 -- Nothing is in an empty log.
 pub had-nothing : (e : Event) → Had e [] → ⊥
@@ -55,15 +55,34 @@ fits-at X e older log fit (later, same) = within later (rw same at fit)
     within [] all = all .0
     within (d ∷ later) all = within later (all .1)
 
+-- Whatever was in the log before is in the log.
+pub had-of-came : (d e : Event) (older log : List Event) → Came e older log → Had d older → Had d log
+had-of-came d e older log (later, same) (oldest, (middle, inside)) =
+    (oldest, (later ++ (e ∷ middle), same ∙ ap (λ l. later ++ (e ∷ l)) inside ∙ sym (append-assoc later (e ∷ middle) (d ∷ oldest))))
+
+-- A log that fits one side is settled.
+pub settled-by : (X : Side) (log : List Event) → AllFit X log → Settled log
+settled-by X log fit =
+    record {
+      one-side = λ i j s t v w one two. names i s v one ∙ sym (names j t w two);
+      posted-before = λ i s v older came. fits-at X (answered i s v) older log fit came .1;
+      first-applied = λ k s older came none i t v had. names i t v had ∙ sym (fits-at X (applied k s) older log fit came none);
+    }
+  where
+    names : (i : ℕ) (s : Side) (v : ℕ) → Had (answered i s v) log → s ≡ X
+    names i s v (older, came) = fits-at X (answered i s v) older log fit came .0
+
 -- A post writes one register, and not the cell.
 pub cell-kept : (m : Shared) (s : Side) (v : ℕ) → withRegister m s v .cell ≡ m .cell
 cell-kept m A v = refl
 cell-kept m B v = refl
 
+-- The register of the side holds the number.
 pub register-written : (m : Shared) (s : Side) (v : ℕ) → register (withRegister m s v) s ≡ v
 register-written m A v = refl
 register-written m B v = refl
 
+-- The other register holds what it held.
 pub register-kept : (m : Shared) (s : Side) (v : ℕ) → register (withRegister m s v) (other s) ≡ register m (other s)
 register-kept m A v = refl
 register-kept m B v = refl
@@ -76,6 +95,7 @@ filled-still m s v some x old = by-side (either x s)
     by-side (inl e) none = some (sym (register-written m s v) ∙ rw e at none)
     by-side (inr e) none = old (rw e (sym (register-kept m s v) ∙ rw e at none))
 
+-- What the registers hold after a post was posted.
 pub honest-post : (k : ℕ) (m : Shared) (s : Side) (v : ℕ) (log : List Event) → Honest m log → Honest (withRegister m s v) (posted k s v ∷ log)
 honest-post k m s v log old x full = by-side (either x s)
   where
@@ -90,6 +110,7 @@ pub register-untouched : (m : Shared) (q : ℕ) (x : Side) → register (withCel
 register-untouched m q A = refl
 register-untouched m q B = refl
 
+-- What the registers hold after an application was posted.
 pub honest-application : (k : ℕ) (s : Side) (m : Shared) (q : ℕ) (log : List Event) → Honest m log → Honest (withCell m q) (applied k s ∷ log)
 honest-application k s m q log old x full =
     let was = old x (rw (register-untouched m q x) at full) in

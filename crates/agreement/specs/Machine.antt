@@ -3,6 +3,7 @@
 -- posts what.
 -- Assumes nothing.
 use Prim.Native.Nat.{ℕ}
+use mathlib.Core.Path.{_≡_}
 use mathlib.Core.Bool.{cond}
 use mathlib.Core.List.{List, [], _∷_}
 use lib.Dec.{eqb, ltb}
@@ -17,6 +18,10 @@ use Rattle.loom.specs.declared.Said.{Said}
 use Rattle.loom.specs.declared.Said.the-variants.{Nothing, Application, Answer}
 use Rattle.loom.specs.Sides.{sideFrom}
 use Rattle.loom.specs.Turn.{Rules, Turn, turnOf}
+
+-- A number that can be posted: "0 means not posted".
+abbrev pub Filled : ℕ → Type 0
+Filled v = v ≡ 0 → ⊥
 
 -- What can be seen of a machine at work.
 pub data Event : Type 0 where
@@ -84,6 +89,7 @@ module _ (next : ℕ → ℕ → ℕ) (looms : List Seat) (R : Rules) where
   unfoldable pub steppedFrom : ℕ → ℕ → Place → State → State
   steppedFrom k v p S = turned k (sideOf looms k) v p (turnOf R (sideOf looms k) v (next (operationAt looms k)) (S .shared) p) S
 
+  -- One step of loom k.
   unfoldable pub stepped : ℕ → ℕ → State → State
   stepped k v S = steppedFrom k v (S .place k) S
 

@@ -1,17 +1,26 @@
 -- Where a loom stands after an act.
 -- Assumes nothing.
 use Prim.Native.Nat.{ℕ, _≤_, _<_}
-use mathlib.Core.Path.{_≡_, refl}
+use mathlib.Core.Path.{_≡_, refl, sym, fun-ext}
 use mathlib.Core.Bool.{Bool, true, false, cond}
-use mathlib.Core.List.{List}
-use lib.Dec.{eqb, ltb}
+use mathlib.Core.List.{List, [], _∷_}
+use lib.Dec.{ltb}
 use lib.ListN.{length}
 use borrow.Author.Tests.{eq-eqb, ne-eqb, lt-ltb, le-ltb}
 use Rattle.recording.specs.declared.Seat.{Seat}
 use Rattle.recording.specs.Recording.{operationAt}
-use Rattle.loom.specs.declared.Place.the-variants.{Begin}
+use Rattle.loom.specs.declared.Side.{Side}
+use Rattle.loom.specs.declared.Place.the-variants.{Begin, Answered}
 use Rattle.loom.specs.Turn.{Rules, turnOf}
-use Rattle.agreement.specs.Machine.{Act, step, restart, restartAll, State, sideOf, changedAt, turned, replaced, steppedFrom, stepped, acted}
+use Rattle.agreement.specs.Machine.{Act, step, restart, restartAll, EachStep, State, sideOf, changedAt, withPost, withSaid, turned, steppedFrom, stepped, acted}
+use Rattle.agreement.specs.LogLaws.{changed-all}
+
+-- The acts are the same acts with less said of their numbers.
+pub each-step-weaker : (P Q : ℕ → ℕ → Type 0) → ((k v : ℕ) → P k v → Q k v) → (acts : List Act) → EachStep P acts → EachStep Q acts
+each-step-weaker P Q weaker [] all = tt
+each-step-weaker P Q weaker (step k v ∷ acts) all = (weaker k v (all .0), each-step-weaker P Q weaker acts (all .1))
+each-step-weaker P Q weaker (restart k ∷ acts) all = each-step-weaker P Q weaker acts all
+each-step-weaker P Q weaker (restartAll ∷ acts) all = each-step-weaker P Q weaker acts all
 
 -- The changed one has its new value, and every other its own.
 pub changed-itself : {A : Type 0} (f : ℕ → A) (k : ℕ) (a : A) → changedAt f k a k ≡ a
@@ -28,6 +37,7 @@ module _ (next : ℕ → ℕ → ℕ) (looms : List Seat) (R : Rules) where
   unfolding acted
   stepped-no-loom S k v past = rw (le-ltb k (length looms) past)
 
+  -- A step of a loom of the group is its turn.
   pub stepped-loom : (S : State) (k v : ℕ) → k < length looms → acted next looms R (step k v) S ≡ stepped next looms R k v S
   unfolding acted
   stepped-loom S k v here = rw (lt-ltb k (length looms) here)
@@ -55,3 +65,18 @@ module _ (next : ℕ → ℕ → ℕ) (looms : List Seat) (R : Rules) where
   pub place-unrestarted : (S : State) (j k : ℕ) → (k ≡ j → ⊥) → acted next looms R (restart j) S .place k ≡ S .place k
   unfolding acted
   place-unrestarted S j k apart = changed-other (S .place) j Begin k apart
+
+  -- A step of a loom that has answered changes nothing.
+  pub stepped-answered : (S : State) (k v : ℕ) (x : Side) → S .place k ≡ Answered x → acted next looms R (step k v) S ≡ S
+  unfolding acted stepped steppedFrom turned turnOf withPost withSaid
+  stepped-answered S k v x there = by-test (ltb k (length looms))
+    where
+      unchanged : (j : ℕ) → changedAt (S .place) k (Answered x) j ≡ S .place j
+      unchanged = changed-all (λ j p. p ≡ S .place j) (S .place) k (Answered x) (sym there) (λ j apart. refl)
+
+      stayed : steppedFrom next looms R k v (Answered x) S ≡ S
+      stayed = λ i. record { shared = S .shared; place = fun-ext unchanged i; log = S .log }
+
+      by-test : (b : Bool) → cond b (stepped next looms R k v S) S ≡ S
+      by-test true = rw there stayed
+      by-test false = refl

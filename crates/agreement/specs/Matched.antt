@@ -59,6 +59,7 @@ placeAt L at26 = Bound L
 placeAt L at12 = Bound (other L)
 placeAt L at27 = Bound (other L)
 
+-- Where a loom stands by its process: where its local computation leads, or answered.
 abbrev pub placeOf : Side → Setting → Process → Place
 placeOf L G (running l q) = placeAt L (ahead G l q)
 placeOf L G (returned X r) = Answered (sideOfTeam L X)

@@ -1,24 +1,20 @@
 -- Each turn of a loom is the step of Figure 2 at the line of its place.
 -- Assumes nothing.
 use Prim.Native.Nat.{ℕ, zero, suc}
-use native.Mathlib.Omega.{arith}
 use mathlib.Core.Path.{_≡_, refl, ap, sym, _∙_}
 use mathlib.Core.Bool.{Bool, true, false, cond}
 use mathlib.Core.Option.{none, some}
 use mathlib.Core.List.{List, _∷_}
 use lib.Dec.{eqb}
 use Rattle.recording.specs.declared.Seat.{Seat}
-use Rattle.recording.specs.Recording.{operationAt}
 use Rattle.loom.specs.declared.Side.{Side}
 use Rattle.loom.specs.declared.Side.the-variants.{A, B}
-use Rattle.loom.specs.declared.Place.{Place}
-use Rattle.loom.specs.declared.Place.the-variants.{Begin, Posted, Looking, Ready, Applied, Bound, Answered}
+use Rattle.loom.specs.declared.Place.the-variants.{Looking, Ready, Bound}
 use Rattle.loom.specs.declared.Shared.{Shared}
-use Rattle.loom.specs.Sides.{other, sameSide, register, withRegister, withCell}
+use Rattle.loom.specs.Sides.{other, sameSide, register, withCell}
 use Rattle.loom.specs.Turn.{Rules, Turn, turnOf, pickPlace, pickSide, decided, both, looks, afterPosted, afterLooking}
-use Rattle.agreement.specs.Machine.{Event, withPost, withSaid}
+use Rattle.agreement.specs.Machine.{Filled, Event, withPost, withSaid}
 use Rattle.agreement.specs.Teams.{other-other, same-as-itself}
-use Rattle.agreement.specs.Phases.{Filled}
 use Rattle.agreement.specs.LogLaws.{cell-kept, register-written, register-kept, register-untouched}
 use Rattle.agreement.specs.Figure.{Team, teamA, teamB, Value, Line, line5, line6, line7, line9, line11, line16, line17, line18, line20, line22, line23, line26, Access, at5, at6, at8, at9, at11, at12, at16, at17, at19, at20, at22, at23, at26, at27, Process, running, returned, Objects, Return, Done, Setting, test, afterLine19, access, withReturn, ahead}
 use Rattle.agreement.specs.Matched.{sideOfTeam, settingOf, number, placeAt, placeOf, Given, answersOf, returnsOf}
@@ -64,10 +60,12 @@ abbrev pub Proper : Value → Type 0
 Proper none = Unit {0}
 Proper (some v) = Filled v
 
+-- Of two lines of one team, either is of that team.
 pub team-of-pick : (b : Bool) (X : Team) (x y : Access) → teamOfAccess x ≡ X → teamOfAccess y ≡ X → teamOfAccess (cond b x y) ≡ X
 team-of-pick true X x y hx hy = hx
 team-of-pick false X x y hx hy = hy
 
+-- The place of one of two lines.
 pub place-of-pick : (L : Side) (b : Bool) (x y : Access) → placeAt L (cond b x y) ≡ pickPlace b (placeAt L x) (placeAt L y)
 place-of-pick L true x y = refl
 place-of-pick L false x y = refl

@@ -4,7 +4,7 @@ use Prim.Native.Nat.{ℕ, zero, suc, _+_, _≤_, _<_}
 use native.Mathlib.Nat.{le-of-suc-le-suc, not-suc-le-zero}
 use native.Mathlib.Decide.{decLt}
 use native.Mathlib.Omega.{arith}
-use mathlib.Core.Path.{_≡_, refl, ap, sym, _∙_}
+use mathlib.Core.Path.{_≡_, refl, ap, sym}
 use mathlib.Core.Bool.{Bool, true, false}
 use mathlib.Core.List.{List, [], _∷_, _++_}
 use lib.Dec.{eqb}
@@ -13,17 +13,20 @@ use borrow.Author.Tests.{eq-eqb, ne-eqb, eqb-true}
 use Rattle.recording.specs.declared.Seat.{Seat}
 use Rattle.recording.specs.Recording.{sideAt, operationAt, one, sideCount, times, FirstIs, Order, reached}
 
--- A loom that stands in neither part does not stand in the whole.
+-- How often a loom stands in a sequence with one more at its end.
 pub times-of-one-more : (j k : ℕ) (us : List ℕ) → times j (us ++ (k ∷ [])) ≡ times j us + one (eqb k j)
 times-of-one-more j k [] = omega arith
 times-of-one-more j k (u ∷ us) = omega (arith, times-of-one-more j k us)
 
+-- Another loom is not k.
 pub not-itself : (j k : ℕ) → (j ≡ k → ⊥) → one (eqb k j) ≡ 0
 not-itself j k apart = ap one (ne-eqb k j (λ e. apart (sym e)))
 
+-- Loom k is k, once.
 pub once-itself : (k : ℕ) → one (eqb k k) ≡ 1
 once-itself k = ap one (eq-eqb k k refl)
 
+-- A test counts at most one.
 pub at-most-once : (b : Bool) → one b ≤ 1
 at-most-once true = omega arith
 at-most-once false = omega arith

@@ -3,7 +3,7 @@
 --   even       where the cell is at the start again, or still, and the leading side can no longer lose;
 --   first X us where the looms `us`, each once, a loom of X first, have taken the cell away from the start.
 -- Assumes nothing.
-use Prim.Native.Nat.{ℕ, zero, suc, _<_}
+use Prim.Native.Nat.{ℕ, _<_}
 use mathlib.Core.Path.{_≡_}
 use mathlib.Core.Bool.{Bool, true, false}
 use mathlib.Core.List.{List, [], _∷_}
@@ -17,17 +17,14 @@ use Rattle.loom.specs.declared.Place.the-variants.{Begin, Posted, Looking, Read
 use Rattle.loom.specs.declared.Shared.{Shared}
 use Rattle.loom.specs.Sides.{sideNumber, other, register}
 use Rattle.loom.specs.Turn.{Rules}
-use Rattle.agreement.specs.Machine.{Event, posted, applied, answered, State, sideOf}
-use Rattle.agreement.specs.Agreed.{Came, Had, NoneApplied}
+use Rattle.agreement.specs.Machine.{Filled, Event, posted, applied, answered, State, sideOf}
+use Rattle.agreement.specs.Agreed.{Had, NoneApplied}
 
+-- The phases.
 pub data Phase : Type 0 where
   fresh : Phase
   even : Phase
   first : Side → List ℕ → Phase
-
--- Something stands in the register: a number other than 0.
-abbrev pub Filled : ℕ → Type 0
-Filled v = v ≡ 0 → ⊥
 
 -- What a log says where X is to win: an answer names X and comes after a post of its number; the first application is of X.
 abbrev pub Fits : Side → Event → List Event → Type 0
@@ -35,6 +32,7 @@ Fits X (posted k s v) older = Unit {0}
 Fits X (applied k s) older = NoneApplied older → s ≡ X
 Fits X (answered k s v) older = (s ≡ X) × ((j : ℕ) × Had (posted j s v) older)
 
+-- Every event fits.
 abbrev pub AllFit : Side → List Event → Type 0
 AllFit X [] = Unit {0}
 AllFit X (e ∷ older) = Fits X e older × AllFit X older
@@ -92,17 +90,20 @@ module _ (next : ℕ → ℕ → ℕ) (looms : List Seat) (start : ℕ) (R : Rul
   abbrev pub Begun : Shared → ℕ → Place → Type 0
   Begun m k p = T (begun p) → (k < length looms) × Filled (register m (sideOf looms k))
 
+  -- Fresh: the cell is at the start and no loom has applied its operation.
   pub record Fresh (m : Shared) (log : List Event) : Type 0 where
     pub at-start : m .cell ≡ start
     pub unapplied : NoneApplied log
     pub fit : (X : Side) → AllFit X log
 
+  -- Even: the cell is at the start, the leading side has posted, and the yielding side has one loom.
   pub record Even (m : Shared) (log : List Event) : Type 0 where
     pub at-start : m .cell ≡ start
     pub led : Filled (register m (R .leading))
     pub alone : R .yieldsAlone ≡ true
     pub fit : AllFit (R .leading) log
 
+  -- First: the cell is where the looms `us` have taken it, a loom of X first.
   pub record First (X : Side) (us : List ℕ) (m : Shared) (log : List Event) : Type 0 where
     pub reaches : m .cell ≡ reached next looms start us
     pub order : Order looms (sideNumber X) us

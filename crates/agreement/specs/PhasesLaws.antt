@@ -6,24 +6,24 @@ use mathlib.Core.Path.{_≡_, refl, ap, sym, _∙_}
 use mathlib.Core.Bool.{Bool, true, false, cond}
 use mathlib.Core.Logic.{_⊎_, inl, inr}
 use mathlib.Core.List.{List, [], _∷_, _++_}
-use lib.Dec.{T, eqb, ltb}
+use lib.Dec.{eqb, ltb}
 use lib.ListN.{length}
 use borrow.Author.Tests.{eqb-true, eqb-false, eq-eqb, ne-eqb, ltb-true}
 use Rattle.recording.specs.declared.Seat.{Seat}
-use Rattle.recording.specs.Recording.{operationAt, sideCount, times, FirstIs, Order, reached, InSet}
+use Rattle.recording.specs.Recording.{operationAt, sideCount, times, Order, reached, InSet}
 use Rattle.loom.specs.declared.Side.{Side}
 use Rattle.loom.specs.declared.Side.the-variants.{A, B}
 use Rattle.loom.specs.declared.Place.{Place}
 use Rattle.loom.specs.declared.Place.the-variants.{Begin, Posted, Looking, Ready, Applied, Bound, Answered}
 use Rattle.loom.specs.declared.Shared.{Shared}
 use Rattle.loom.specs.Sides.{sideNumber, other, sameSide, register, withRegister, withCell}
-use Rattle.loom.specs.Turn.{Rules, Turn, turnOf, pickSide, pickPlace, decided, both, looks, afterPosted, afterLooking}
-use Rattle.agreement.specs.Machine.{Event, posted, applied, answered, Act, step, restart, restartAll, EachStep, State, sideOf, changedAt, withPost, withSaid, turned, replaced, steppedFrom, stepped, acted, after, opening}
-use Rattle.agreement.specs.Agreed.{Had, NoneApplied}
-use Rattle.agreement.specs.Fitted.{Renders, Fitted}
-use Rattle.agreement.specs.Orders.{order-of-one, order-of-one-more, reached-by-one-more, not-in-one-more, not-itself}
-use Rattle.agreement.specs.Teams.{either, other-other, not-other, same-side, same-as-itself, side-number, start-or-alone, every-loom-appears, decides, one-yields, leads-without}
-use Rattle.agreement.specs.Phases.{Phase, fresh, even, first, Filled, AllFit, Honest, Wins, MayApply, MayLook, MayRead, Stands, Begun, Fresh, Even, First, Phased, Holds}
+use Rattle.loom.specs.Turn.{Rules, turnOf, pickPlace, decided, both, looks, afterPosted, afterLooking}
+use Rattle.agreement.specs.Machine.{Filled, Event, posted, applied, answered, Act, step, restart, restartAll, EachStep, State, sideOf, changedAt, withPost, withSaid, turned, replaced, steppedFrom, stepped, acted, after, opening}
+use Rattle.agreement.specs.Agreed.{NoneApplied}
+use Rattle.agreement.specs.Fitted.{Fitted}
+use Rattle.agreement.specs.Orders.{order-of-one, order-of-one-more, reached-by-one-more, not-in-one-more}
+use Rattle.agreement.specs.Teams.{either, other-other, same-side, same-as-itself, side-number, start-or-alone, every-loom-appears, decides, one-yields, leads-without}
+use Rattle.agreement.specs.Phases.{Phase, fresh, even, first, AllFit, Honest, Wins, MayApply, MayLook, MayRead, Stands, Begun, First, Phased, Holds}
 use Rattle.agreement.specs.LogLaws.{had-nothing, had-latest, had-still, none-applied-by-post, still-applied, cell-kept, register-written, register-untouched, filled-still, honest-post, honest-application, changed-all}
 
 module _ {next : ℕ → ℕ → ℕ} {looms : List Seat} {start : ℕ} {R : Rules} (given : Fitted next looms start R) where
@@ -62,6 +62,7 @@ module _ {next : ℕ → ℕ → ℕ} {looms : List Seat} {start : ℕ} {R : Rul
     λ back. away (sym (cell-kept m s v) ∙ back),
   )
 
+  -- A post keeps the invariant.
   pub holds-posted : (S : State) (k v : ℕ) → k < length looms → Filled v → Holds next looms start R S →
       Holds next looms start R (steppedFrom next looms R k v Begin S)
   unfolding steppedFrom turned turnOf withPost withSaid
@@ -123,11 +124,10 @@ module _ {next : ℕ → ℕ → ℕ} {looms : List Seat} {start : ℕ} {R : Rul
       (decides given X (m .cell) (us, known .order, sym (known .reaches)))
 
   -- In a fresh machine the yielding loom yields: from now on the leading side wins. No other loom of its side is there to be ready.
-  pub holds-yielding : (S : State) (k : ℕ) → k < length looms → sideOf looms k ≡ other (R .leading) → R .yieldsAlone ≡ true →
-      Filled (register (S .shared) (R .leading)) → Fresh next looms start R (S .shared) (S .log) →
+  pub stands-yielding : (S : State) (k : ℕ) → k < length looms → sideOf looms k ≡ other (R .leading) → R .yieldsAlone ≡ true →
       ((j : ℕ) → Stands next looms start R fresh j (S .place j)) → ((j : ℕ) → Begun next looms start R (S .shared) j (S .place j)) →
       (x : Side) → x ≡ R .leading → (j : ℕ) → Stands next looms start R even j (changedAt (S .place) k (Bound x) j)
-  holds-yielding S k here yields alone led known stands begins x wins =
+  stands-yielding S k here yields alone stands begins x wins =
       changed-all (Stands next looms start R even) (S .place) k (Bound x) wins (λ j apart. others j apart (S .place j) (stands j) (begins j))
     where
       leads : (j : ℕ) → (j ≡ k → ⊥) → j < length looms → sideOf looms j ≡ R .leading
@@ -158,6 +158,7 @@ module _ {next : ℕ → ℕ → ℕ} {looms : List Seat} {start : ℕ} {R : Rul
   stands-unposted even m log k known empty look = absurd (known .led empty)
   stands-unposted (first X us) m log k known empty look = look
 
+  -- A loom that yields keeps the invariant.
   pub holds-bound : (S : State) (k : ℕ) (x : Side) (known : Holds next looms start R S) → Stands next looms start R (known .phase) k Looking →
       Begun next looms start R (S .shared) k (Bound x) → Filled (register (S .shared) (R .leading)) → x ≡ R .leading →
       Holds next looms start R (replaced S (changedAt (S .place) k (Bound x)))
@@ -169,7 +170,7 @@ module _ {next : ℕ → ℕ → ℕ} {looms : List Seat} {start : ℕ} {R : Rul
           record {
             phase = even;
             phased = record { at-start = known′ .at-start; led = led; alone = here .1; fit = known′ .fit (R .leading) };
-            stands = holds-yielding S k (begins tt .0) (here .0) (here .1) led known′ all (known .begins) x leads;
+            stands = stands-yielding S k (begins tt .0) (here .0) (here .1) all (known .begins) x leads;
             begins = changed-all (Begun next looms start R (S .shared)) (S .place) k (Bound x) begins (λ j apart. known .begins j);
             honest = known .honest;
           }
@@ -184,6 +185,7 @@ module _ {next : ℕ → ℕ → ℕ} {looms : List Seat} {start : ℕ} {R : Rul
           (leads ∙ sym (leads-without given k X us (here .1) (begins tt .0) (here .0) (known′ .0 .order) (here .2)))
           begins
 
+  -- A look at the other register keeps the invariant.
   pub holds-looked : (S : State) (k v : ℕ) (known : Holds next looms start R S) → Stands next looms start R (known .phase) k Looking →
       Begun next looms start R (S .shared) k Looking → Holds next looms start R (steppedFrom next looms R k v Looking S)
   unfolding steppedFrom turned turnOf afterLooking withPost withSaid
@@ -277,6 +279,7 @@ module _ {next : ℕ → ℕ → ℕ} {looms : List Seat} {start : ℕ} {R : Rul
   stands-one-more phase k X us looks′ applies wins j apart (Bound y) old = wins y old
   stands-one-more phase k X us looks′ applies wins j apart (Answered y) old = wins y old
 
+  -- An application keeps the invariant, from whatever phase: the looms `us` and then k have taken the cell to where it is.
   pub holds-one-more : (S : State) (k v : ℕ) (known : Holds next looms start R S) → Begun next looms start R (S .shared) k Ready → (X : Side) (us : List ℕ) →
       S .shared .cell ≡ reached next looms start us → Order looms (sideNumber X) (us ++ (k ∷ [])) → Filled (register (S .shared) X) →
       AllFit X (S .log) → (NoneApplied (S .log) → sideOf looms k ≡ X) →
@@ -399,6 +402,7 @@ module _ {next : ℕ → ℕ → ℕ} {looms : List Seat} {start : ℕ} {R : Rul
     away,
   )
 
+  -- An answer keeps the invariant.
   pub holds-answered : (S : State) (k v : ℕ) (x : Side) (known : Holds next looms start R S) → Wins next looms start R (known .phase) x →
       Begun next looms start R (S .shared) k (Bound x) → Holds next looms start R (steppedFrom next looms R k v (Bound x) S)
   unfolding steppedFrom turned turnOf withPost withSaid
@@ -469,6 +473,7 @@ module _ {next : ℕ → ℕ → ℕ} {looms : List Seat} {start : ℕ} {R : Rul
   holds-after (restart k ∷ acts) S filled known = holds-after acts _ filled (holds-acted (restart k) acts S filled known)
   holds-after (restartAll ∷ acts) S filled known = holds-after acts _ filled (holds-acted restartAll acts S filled known)
 
+  -- The invariant holds at the opening.
   pub holds-opening : Holds next looms start R (opening start)
   holds-opening =
       record {

@@ -10,7 +10,7 @@ use Rattle.loom.specs.declared.Side.{Side}
 use Rattle.loom.specs.declared.Side.the-variants.{A, B}
 use Rattle.loom.specs.Sides.{sameSide}
 use Rattle.loom.specs.Turn.{turnOf, afterPosted, afterLooking}
-use Rattle.agreement.specs.Machine.{Event, posted, applied, answered, Act, step, restart, restartAll, sideOf, changedAt, withPost, withSaid, turned, steppedFrom, stepped, acted, after, opening}
+use Rattle.agreement.specs.Machine.{Event, posted, applied, answered, restart, changedAt, withPost, withSaid, turned, steppedFrom, stepped, acted, after}
 use Rattle.agreement.specs.Agreed.{Had, Agreed}
 use Rattle.agreement.specs.Teams.{same-side}
 use Rattle.agreement.specs.LogLaws.{had-latest, had-still}
@@ -26,6 +26,7 @@ names s (answered k t v ∷ log) = sameSide t s || names s log
 one-more : (e : Event) (log : List Event) (s : Side) → (i : ℕ) × ((v : ℕ) × Had (answered i s v) log) → (i : ℕ) × ((v : ℕ) × Had (answered i s v) (e ∷ log))
 one-more e log s (i, (v, had)) = (i, (v, had-still (answered i s v) e log had))
 
+-- Then such an answer is in the log.
 pub had-of-names : (s : Side) (log : List Event) → names s log ≡ true → (i : ℕ) × ((v : ℕ) × Had (answered i s v) log)
 had-of-names s [] e = absurd (let z : _≡_ {A = ℕ} 0 1 = cc in omega arith)
 had-of-names s (posted k t v ∷ log) e = one-more (posted k t v) log s (had-of-names s log e)
@@ -56,7 +57,8 @@ disagree num log events same one two = (same, refuted)
 -- late return (code 21: the start is in the set of A, and B has two looms). Loom 0 answers A; looms 1 and 2 take the cell back to the
 -- start; loom 1, restarted, applies again and answers B.
 pub late-return : Disagrees numbers
-    (eventsOf lateReturn three lateReturnRules (steps numbers three (0 ∷ 0 ∷ 1 ∷ 1 ∷ 2 ∷ 2 ∷ 0 ∷ 0 ∷ 0 ∷ 1 ∷ 2 ∷ []) ++ (restart 1 ∷ steps numbers three (1 ∷ 1 ∷ 1 ∷ 1 ∷ 1 ∷ []))))
+    (eventsOf lateReturn three lateReturnRules (steps numbers three (0 ∷ 0 ∷ 1 ∷ 1 ∷ 2 ∷ 2 ∷ 0 ∷ 0 ∷ 0 ∷ 1 ∷ 2 ∷ []) ++
+    (restart 1 ∷ steps numbers three (1 ∷ 1 ∷ 1 ∷ 1 ∷ 1 ∷ []))))
     (answered 1 B 733 ∷ applied 1 B ∷ posted 1 B 733 ∷ applied 2 B ∷ applied 1 B ∷ answered 0 A 501 ∷ applied 0 A ∷ posted 2 B 733 ∷
     posted 1 B 733 ∷ posted 0 A 501 ∷ [])
 unfolding eventsOf after acted stepped steppedFrom turned turnOf afterPosted afterLooking withPost withSaid changedAt
@@ -64,7 +66,8 @@ late-return = disagree numbers _ _ refl refl refl
 
 -- late return, exchanged (code 22): the same with the sides' names exchanged.
 pub late-return-exchanged : Disagrees numbers
-    (eventsOf lateReturn threeExchanged lateExchangedRules (steps numbers threeExchanged (0 ∷ 0 ∷ 1 ∷ 1 ∷ 2 ∷ 2 ∷ 0 ∷ 0 ∷ 0 ∷ 1 ∷ 2 ∷ []) ++ (restart 1 ∷ steps numbers threeExchanged (1 ∷ 1 ∷ 1 ∷ 1 ∷ 1 ∷ []))))
+    (eventsOf lateReturn threeExchanged lateExchangedRules (steps numbers threeExchanged (0 ∷ 0 ∷ 1 ∷ 1 ∷ 2 ∷ 2 ∷ 0 ∷ 0 ∷ 0 ∷ 1 ∷ 2 ∷ []) ++
+    (restart 1 ∷ steps numbers threeExchanged (1 ∷ 1 ∷ 1 ∷ 1 ∷ 1 ∷ []))))
     (answered 1 A 501 ∷ applied 1 A ∷ posted 1 A 501 ∷ applied 2 A ∷ applied 1 A ∷ answered 0 B 733 ∷ applied 0 B ∷ posted 2 A 501 ∷
     posted 1 A 501 ∷ posted 0 B 733 ∷ [])
 unfolding eventsOf after acted stepped steppedFrom turned turnOf afterPosted afterLooking withPost withSaid changedAt
@@ -89,7 +92,8 @@ two-that-yield = disagree numbers _ _ refl refl refl
 -- A yielding side of one loom that doesn't yield, on "returns". Loom 0 answers A; loom 1 takes the cell back to the start, and restarted
 -- applies again and answers B.
 pub one-that-does-not-yield : Disagrees numbers
-    (eventsOf returns pair unyieldingRules (steps numbers pair (0 ∷ 0 ∷ 1 ∷ 1 ∷ 0 ∷ 0 ∷ 0 ∷ 1 ∷ []) ++ (restart 1 ∷ steps numbers pair (1 ∷ 1 ∷ 1 ∷ 1 ∷ 1 ∷ []))))
+    (eventsOf returns pair unyieldingRules (steps numbers pair (0 ∷ 0 ∷ 1 ∷ 1 ∷ 0 ∷ 0 ∷ 0 ∷ 1 ∷ []) ++
+    (restart 1 ∷ steps numbers pair (1 ∷ 1 ∷ 1 ∷ 1 ∷ 1 ∷ []))))
     (answered 1 B 733 ∷ applied 1 B ∷ posted 1 B 733 ∷ applied 1 B ∷ answered 0 A 501 ∷ applied 0 A ∷ posted 1 B 733 ∷ posted 0 A 501 ∷ [])
 unfolding eventsOf after acted stepped steppedFrom turned turnOf afterPosted afterLooking withPost withSaid changedAt
 one-that-does-not-yield = disagree numbers _ _ refl refl refl
@@ -97,14 +101,16 @@ one-that-does-not-yield = disagree numbers _ _ refl refl refl
 -- The start in the set of the yielding side: "returns" with B leading. Loom 0 answers A; loom 1 takes the cell back to the start; loom 0,
 -- restarted, looks, yields and answers B.
 pub roles-not-exchanged : Disagrees numbers
-    (eventsOf returns pair unexchangedRules (steps numbers pair (0 ∷ 0 ∷ 0 ∷ 1 ∷ 1 ∷ 0 ∷ 0 ∷ 0 ∷ 1 ∷ []) ++ (restart 0 ∷ steps numbers pair (0 ∷ 0 ∷ 0 ∷ 0 ∷ []))))
+    (eventsOf returns pair unexchangedRules (steps numbers pair (0 ∷ 0 ∷ 0 ∷ 1 ∷ 1 ∷ 0 ∷ 0 ∷ 0 ∷ 1 ∷ []) ++
+    (restart 0 ∷ steps numbers pair (0 ∷ 0 ∷ 0 ∷ 0 ∷ []))))
     (answered 0 B 733 ∷ posted 0 A 501 ∷ applied 1 B ∷ answered 0 A 501 ∷ applied 0 A ∷ posted 1 B 733 ∷ posted 0 A 501 ∷ [])
 unfolding eventsOf after acted stepped steppedFrom turned turnOf afterPosted afterLooking withPost withSaid changedAt
 roles-not-exchanged = disagree numbers _ _ refl refl refl
 
 -- A number of 0, on "returns": the yielding loom sees no post, and doesn't yield.
 pub zero-posted : Disagrees zeroForA
-    (eventsOf returns pair returnsRules (steps zeroForA pair (0 ∷ 0 ∷ 1 ∷ 1 ∷ 0 ∷ 0 ∷ 0 ∷ 1 ∷ 1 ∷ []) ++ (restart 1 ∷ steps zeroForA pair (1 ∷ 1 ∷ 1 ∷ 1 ∷ 1 ∷ 1 ∷ []))))
+    (eventsOf returns pair returnsRules (steps zeroForA pair (0 ∷ 0 ∷ 1 ∷ 1 ∷ 0 ∷ 0 ∷ 0 ∷ 1 ∷ 1 ∷ []) ++
+    (restart 1 ∷ steps zeroForA pair (1 ∷ 1 ∷ 1 ∷ 1 ∷ 1 ∷ 1 ∷ []))))
     (answered 1 B 733 ∷ applied 1 B ∷ posted 1 B 733 ∷ applied 1 B ∷ answered 0 A 0 ∷ applied 0 A ∷ posted 1 B 733 ∷ posted 0 A 0 ∷ [])
 unfolding eventsOf after acted stepped steppedFrom turned turnOf afterPosted afterLooking withPost withSaid changedAt
 zero-posted = disagree zeroForA _ _ refl refl refl

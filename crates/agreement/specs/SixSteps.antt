@@ -12,7 +12,7 @@ use Rattle.loom.specs.Turn.{Rules}
 use Rattle.agreement.specs.Machine.{answered, Act, State, after, opening}
 use Rattle.agreement.specs.Agreed.{Had}
 use Rattle.agreement.specs.Steps.{stepsOf, Unrestarted, countAfter}
-use Rattle.agreement.specs.StepsLaws.{rank, rank-at-most-six, answered-at-six, count-within-rank, rank-after, Spoken, spoken-after}
+use Rattle.agreement.specs.StepsLaws.{rank-at-most-six, answered-at-six, count-within-rank, rank-after, spoken-after}
 
 module _ (next : ℕ → ℕ → ℕ) (looms : List Seat) (R : Rules) where
   -- A loom that takes six steps with no restart of it, or of all, in between has answered by the sixth, from wherever it began.

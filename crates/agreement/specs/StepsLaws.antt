@@ -2,10 +2,10 @@
 -- Assumes nothing.
 use Prim.Native.Nat.{ℕ, zero, suc, _+_, _≤_, _<_, min}
 use native.Mathlib.Omega.{arith}
-use mathlib.Core.Path.{_≡_, refl, ap, sym, _∙_}
+use mathlib.Core.Path.{_≡_, refl, sym}
 use mathlib.Core.Bool.{Bool, true, false, cond}
 use mathlib.Core.List.{List, [], _∷_}
-use lib.Dec.{T, eqb, ltb, eqb-refl}
+use lib.Dec.{eqb, ltb, eqb-refl}
 use lib.ListN.{length}
 use borrow.Author.Tests.{eqb-true, eqb-false, ltb-true, ltb-false, lt-ltb}
 use Rattle.recording.specs.declared.Seat.{Seat}
@@ -16,10 +16,10 @@ use Rattle.loom.specs.declared.Place.the-variants.{Begin, Posted, Looking, Read
 use Rattle.loom.specs.declared.Shared.{Shared}
 use Rattle.loom.specs.Sides.{other, register}
 use Rattle.loom.specs.Turn.{Rules, turnOf, pickPlace, decided, both, looks, afterPosted, afterLooking}
-use Rattle.agreement.specs.Machine.{Event, answered, Act, step, restart, restartAll, State, sideOf, changedAt, withPost, withSaid, turned, replaced, steppedFrom, stepped, acted, after, opening}
+use Rattle.agreement.specs.Machine.{Event, answered, Act, step, restart, restartAll, State, sideOf, withPost, withSaid, turned, steppedFrom, stepped, acted, after}
 use Rattle.agreement.specs.Agreed.{Had}
 use Rattle.agreement.specs.LogLaws.{had-latest, had-still, changed-all}
-use Rattle.agreement.specs.MachineLaws.{stepped-no-loom, place-stepped, place-unstepped, place-restarted, place-unrestarted}
+use Rattle.agreement.specs.MachineLaws.{stepped-no-loom, place-stepped, place-unstepped, place-unrestarted}
 use Rattle.agreement.specs.Steps.{stepsOf, Unrestarted, unanswered, zeroIf, counted, countAfter}
 
 -- How far a loom has come.
@@ -32,6 +32,7 @@ rank Applied = 4
 rank (Bound x) = 5
 rank (Answered x) = 6
 
+-- The highest rank is six: answered.
 pub rank-at-most-six : (p : Place) → rank p ≤ 6
 rank-at-most-six Begin = omega arith
 rank-at-most-six Posted = omega arith
@@ -50,10 +51,12 @@ answered-at-six Applied high = absurd (omega arith)
 answered-at-six (Bound x) high = absurd (omega arith)
 answered-at-six (Answered x) high = (x, refl)
 
+-- The rank of one of two places.
 pub rank-of-pick : (b : Bool) (p q : Place) (n : ℕ) → n ≤ rank p → n ≤ rank q → n ≤ rank (pickPlace b p q)
 rank-of-pick true p q n low high = low
 rank-of-pick false p q n low high = high
 
+-- A loom that has looked has come farther.
 pub rank-after-looking : (s : Side) (w : ℕ) → 3 ≤ rank (afterLooking s w)
 unfolding afterLooking
 rank-after-looking s zero = omega arith
@@ -94,8 +97,12 @@ module _ (next : ℕ → ℕ → ℕ) (looms : List Seat) (R : Rules) where
       one (both b (both (ltb k (length looms)) (unanswered (S .place k)))) + rank (S .place k) ≤ rank (acted next looms R (step j v) S .place k)
   rank-stepped S j v k true e = rw (eqb-true j k e) (by-test (ltb k (length looms)) refl)
     where
-      by-test : (b : Bool) → ltb k (length looms) ≡ b → one (both b (unanswered (S .place k))) + rank (S .place k) ≤ rank (acted next looms R (step k v) S .place k)
-      by-test true here = rw (place-stepped next looms R S k v (ltb-true k (length looms) here)) (rank-rises R (sideOf looms k) v (next (operationAt looms k)) (S .shared) (S .place k))
+      by-test : (b : Bool) → ltb k (length looms) ≡ b →
+          one (both b (unanswered (S .place k))) + rank (S .place k) ≤ rank (acted next looms R (step k v) S .place k)
+      by-test true here =
+          rw
+          (place-stepped next looms R S k v (ltb-true k (length looms) here))
+          (rank-rises R (sideOf looms k) v (next (operationAt looms k)) (S .shared) (S .place k))
       by-test false past = rw (stepped-no-loom next looms R S k v (ltb-false k (length looms) past)) (omega arith)
   rank-stepped S j v k false e = rw (place-unstepped next looms R S j v k (λ same. eqb-false j k e (sym same))) (omega arith)
 
@@ -148,6 +155,7 @@ Spoken log k Applied = Unit {0}
 Spoken log k (Bound x) = Unit {0}
 Spoken log k (Answered x) = (v : ℕ) × Had (answered k x v) log
 
+-- What was said stays said.
 pub spoken-still : (e : Event) (log : List Event) (k : ℕ) (p : Place) → Spoken log k p → Spoken (e ∷ log) k p
 spoken-still e log k Begin said = tt
 spoken-still e log k Posted said = tt
@@ -173,6 +181,7 @@ spoken-looked s zero log k = tt
 spoken-looked s (suc w) log k = tt
 
 module _ (next : ℕ → ℕ → ℕ) (looms : List Seat) (R : Rules) where
+  -- Every step, and every list of acts, keeps it so.
   pub spoken-stepped : (S : State) (k v : ℕ) (p : Place) → Spoken (S .log) k p → ((j : ℕ) → Spoken (S .log) j (S .place j)) →
       (j : ℕ) → Spoken (steppedFrom next looms R k v p S .log) j (steppedFrom next looms R k v p S .place j)
   unfolding steppedFrom turned turnOf withPost withSaid

@@ -3,19 +3,20 @@
 use Prim.Native.Nat.{ℕ, zero, suc, _≤_, _<_}
 use native.Mathlib.Nat.{le-of-suc-le-suc, not-suc-le-zero}
 use native.Mathlib.Omega.{arith}
-use mathlib.Core.Path.{_≡_, refl, ap, sym, _∙_, subst}
+use mathlib.Core.Path.{_≡_, refl, ap, sym, _∙_}
 use mathlib.Core.Bool.{Bool, true, false}
 use mathlib.Core.Logic.{_⊎_, inl, inr}
 use mathlib.Core.List.{List, [], _∷_, _++_}
 use lib.ListN.{length}
 use Rattle.recording.specs.declared.Seat.{Seat}
-use Rattle.recording.specs.Recording.{sideAt, operationAt, sideCount, times, Order, reached, InSet, Recording}
+use Rattle.recording.specs.Recording.{sideAt, operationAt, sideCount, times, Order, reached, InSet}
 use Rattle.loom.specs.declared.Side.{Side}
 use Rattle.loom.specs.declared.Side.the-variants.{A, B}
 use Rattle.loom.specs.Sides.{sideNumber, sideFrom, other, sameSide}
+use Rattle.loom.specs.SidesLaws.{side-of-number}
 use Rattle.loom.specs.Turn.{Rules, decided, pickSide}
 use Rattle.agreement.specs.Machine.{sideOf}
-use Rattle.agreement.specs.Fitted.{Renders, Fitted}
+use Rattle.agreement.specs.Fitted.{Fitted}
 use Rattle.agreement.specs.Orders.{order-of-one, order-of-one-more, reached-by-one-more, loom-of-order, lone}
 
 -- There are two sides.
@@ -25,14 +26,12 @@ either A B = inr refl
 either B A = inr refl
 either B B = inl refl
 
+-- The other side of the other side is the side.
 pub other-other : (s : Side) → other (other s) ≡ s
 other-other A = refl
 other-other B = refl
 
-pub not-other : (s : Side) → s ≡ other s → ⊥
-not-other A e = let z : _≡_ {A = ℕ} 0 1 = cc in omega arith
-not-other B e = let z : _≡_ {A = ℕ} 0 1 = cc in omega arith
-
+-- The test for one side.
 pub same-side : (s t : Side) → sameSide s t ≡ true → s ≡ t
 same-side A A e = refl
 same-side A B e = cc
@@ -43,14 +42,11 @@ pub same-as-itself : (s : Side) → sameSide s s ≡ true
 same-as-itself A = refl
 same-as-itself B = refl
 
+-- A certificate's side number is its side's.
 pub number-of-side : (n : ℕ) → n ≤ 1 → n ≡ sideNumber (sideFrom n)
 number-of-side zero h = refl
 number-of-side (suc zero) h = refl
 number-of-side (suc (suc n)) h = absurd (not-suc-le-zero (le-of-suc-le-suc h))
-
-pub side-of-number : (s : Side) → sideFrom (sideNumber s) ≡ s
-side-of-number A = refl
-side-of-number B = refl
 
 module _ {next : ℕ → ℕ → ℕ} {looms : List Seat} {start : ℕ} {R : Rules} (given : Fitted next looms start R) where
   -- Loom k's number for its side.

@@ -9,8 +9,6 @@ use lib.Dec.{ltb}
 use lib.ListN.{length}
 use borrow.Author.Tests.{ltb-true}
 use Rattle.recording.specs.declared.Seat.{Seat}
-use Rattle.recording.specs.Recording.{operationAt}
-use Rattle.loom.specs.declared.Side.{Side}
 use Rattle.loom.specs.declared.Place.{Place}
 use Rattle.loom.specs.declared.Place.the-variants.{Begin, Posted, Looking, Ready, Applied, Bound, Answered}
 use Rattle.loom.specs.Turn.{Rules, turnOf}
@@ -23,6 +21,7 @@ Told P looms (posted k s v) = (k < length looms) × (s ≡ sideOf looms k) × P 
 Told P looms (applied k s) = (k < length looms) × (s ≡ sideOf looms k)
 Told P looms (answered k s v) = k < length looms
 
+-- A log in which every event tells the truth.
 abbrev pub AllTold : (ℕ → ℕ → Type 0) → List Seat → List Event → Type 0
 AllTold P looms [] = Unit {0}
 AllTold P looms (e ∷ log) = Told P looms e × AllTold P looms log
@@ -36,6 +35,7 @@ told-of-had P looms e log all (older, (later, same)) = within later (rw same at 
     within (d ∷ later) all′ = within later (all′ .1)
 
 module _ (next : ℕ → ℕ → ℕ) (looms : List Seat) (R : Rules) (P : ℕ → ℕ → Type 0) where
+  -- Every step, and every list of acts, leaves a true log.
   pub told-stepped : (S : State) (k v : ℕ) (p : Place) → k < length looms → P k v → AllTold P looms (S .log) →
       AllTold P looms (steppedFrom next looms R k v p S .log)
   unfolding steppedFrom turned turnOf withPost withSaid

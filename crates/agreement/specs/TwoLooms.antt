@@ -1,13 +1,13 @@
 -- The sequences of two looms: what holds after each of the four holds throughout a set.
 -- Assumes nothing.
-use Prim.Native.Nat.{ℕ, zero, suc, _+_, _≤_, _<_}
+use Prim.Native.Nat.{ℕ, zero, suc, _≤_, _<_}
 use native.Mathlib.Omega.{arith}
 use native.Mathlib.Decide.{decLt}
-use mathlib.Core.Path.{_≡_, refl, ap, sym, _∙_}
+use mathlib.Core.Path.{_≡_, refl}
 use mathlib.Core.List.{List, [], _∷_}
 use lib.ListN.{length}
 use Rattle.recording.specs.declared.Seat.{Seat}
-use Rattle.recording.specs.Recording.{sideAt, operationAt, one, times, Order, reached, InSet}
+use Rattle.recording.specs.Recording.{sideAt, times, Order, reached, InSet}
 use Rattle.agreement.specs.Orders.{once-itself}
 
 -- A loom of a sequence is in it, and in every longer one.
@@ -25,6 +25,7 @@ below-of-order looms X us order u present = by-cases (decLt u (length looms))
     by-cases (yes here) = here
     by-cases (no past) = absurd (present (order .looms-of-it u (omega arith)))
 
+-- Whoever is in a sequence at most once is in the rest of it at most once.
 pub once-of-tail : (u w : ℕ) (us : List ℕ) → times u (w ∷ us) ≤ 1 → times u us ≤ 1
 once-of-tail u w us once = omega arith
 
