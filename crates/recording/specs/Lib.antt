@@ -1,1 +1,4 @@
+pub mod OrdersLaws
 pub mod Recording
+pub mod Scratch
+pub mod Words
