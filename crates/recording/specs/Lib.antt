@@ -1,4 +1,6 @@
+pub mod MembersLaws
 pub mod OrdersLaws
 pub mod Recording
 pub mod Scratch
 pub mod Words
+pub mod WordsLaws
