@@ -1,6 +1,5 @@
-pub mod MembersLaws
 pub mod OrdersLaws
 pub mod Recording
-pub mod Scratch
+pub mod UnionLaws
 pub mod Words
 pub mod WordsLaws

@@ -14,7 +14,7 @@ use lib.Dec.{eqb}
 use lib.ListN.{length}
 use lib.Pow.{pow-pos, split, high}
 use Rattle.sets.specs.Sets.{bit}
-use Rattle.recording.specs.Scratch.{bit-small, bit-beyond, equal-members, below-by-members, bit-zero, bit-or, bit-and, bit-single-same, bit-single-other}
+use Rattle.sets.specs.SetsLaws.{bit-small, bit-beyond, equal-members, below-by-members, bit-zero, bit-or, bit-and, bit-single-same, bit-single-other}
 use Rattle.recording.specs.declared.Seat.{Seat}
 use Rattle.recording.specs.Recording.{operationAt, sideAt, one, times, FirstIs, Order, reached}
 

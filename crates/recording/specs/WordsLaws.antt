@@ -18,9 +18,9 @@ use lib.Pow.{pow-pos}
 use lib.Seq.{getD-at}
 use lib.WfN.{Nat·lt-wfRel}
 use Rattle.sets.specs.Sets.{bit, hasOf}
-use Rattle.recording.specs.Scratch.{bit-small, bit-beyond, equal-members, below-by-members, bit-zero, bit-or, bit-single-same, bit-single-other}
+use Rattle.sets.specs.SetsLaws.{bit-small, bit-beyond, equal-members, below-by-members, bit-zero, bit-or, bit-single-same, bit-single-other}
 use Rattle.recording.specs.declared.Seat.{Seat}
-use Rattle.recording.specs.MembersLaws.{in-union, union-first, union-second, in-single, empty-has-none, member-below, union-below, single-below}
+use Rattle.recording.specs.UnionLaws.{in-union, union-first, union-second, in-single, empty-has-none, member-below, union-below, single-below}
 use Rattle.recording.specs.OrdersLaws.{single-digits, single-within, without, alone, times-end, reached-end, first-end, last-loom, standing, standing-digits}
 use Rattle.recording.specs.Recording.{operationAt, sideAt, one, times, FirstIs, Order, reached, InSet}
 use Rattle.recording.specs.Words.{pickSet, withIf, advanced, unionOf, firstBy, lastBy, wordFrom, oneMore, filled, setOf}
@@ -85,6 +85,18 @@ pick-below false k a c small other = other
 pub record Closed (next : ℕ → ℕ → ℕ) (looms : List Seat) (states start : ℕ) : Type 0 where
   pub start-fits : start < states
   pub steps-fit : (k q : ℕ) → k < length looms → q < states → next (operationAt looms k) q < states
+
+-- ---- the last loom of an order of the looms in m
+last-in : (m : ℕ) (vs : List ℕ) (v : ℕ) → ((i : ℕ) → times i (vs ++ (v ∷ [])) ≡ bit m i) → bit m v ≡ 1
+last-in m vs v digits = omega (arith, digits v, times-end v vs v, bit-small m v, ap one (eq-eqb v v refl))
+
+before-last : (m : ℕ) (vs : List ℕ) (v : ℕ) → bit m v ≡ 1 → ((i : ℕ) → times i (vs ++ (v ∷ [])) ≡ bit m i)
+    → (i : ℕ) → times i vs ≡ bit (m - 2 ^ v) i
+before-last m vs v has digits i = omega (arith, digits i, times-end i vs v, without m v has i)
+
+not-alone : (m u : ℕ) (us : List ℕ) → m ≡ 0 → ((i : ℕ) → times i (u ∷ us) ≡ bit m i) → ⊥
+not-alone m u us none digits =
+    omega (arith, digits u, ap one (eq-eqb u u refl), ap (λ (x : ℕ). bit x u) none, bit-zero u)
 
 module _ (next : ℕ → ℕ → ℕ) (looms : List Seat) (states start X : ℕ) where
   -- ---- the words in their list
@@ -265,10 +277,36 @@ module _ (next : ℕ → ℕ → ℕ) (looms : List Seat) (states start X : ℕ)
         → bit (wordAt m) (next (operationAt looms j) p) ≡ 1
     complete-then m j p within has more there =
         unfold wordAt in word-has (filled next looms states start X m) m (length looms) j (next (operationAt looms j) p) within
-        (last-has-moved (filled next looms states start X m) m j p has more ?small (rw (earlier-word m j has) there))
+        (last-has-moved (filled next looms states start X m) m j p has more
+        (member-below states (wordAt (m - 2 ^ j)) p (word-below closed (filled next looms states start X (m - 2 ^ j)) (m - 2 ^ j) (length looms) (le-refl (length looms))) there)
+        (rw (earlier-word m j has) there))
 
-    complete-step : (m : ℕ)
-        → ((k : ℕ) → k < m → k < 2 ^ length looms → (us : List ℕ) → OrderOf k us → bit (wordAt k) (reached next looms start us) ≡ 1)
-        → m < 2 ^ length looms → (us : List ℕ) → OrderOf m us → bit (wordAt m) (reached next looms start us) ≡ 1
+    Complete : ℕ → Type 0
+    Complete m = m < 2 ^ length looms → (us : List ℕ) → OrderOf m us → bit (wordAt m) (reached next looms start us) ≡ 1
+
+    complete-end : (m : ℕ) → ((k : ℕ) → k < m → Complete k) → m < 2 ^ length looms
+        → (vs : List ℕ) (v : ℕ) → OrderOf m (vs ++ (v ∷ [])) → bit (wordAt m) (reached next looms start (vs ++ (v ∷ []))) ≡ 1
+    unfolding Complete
+    complete-end m before small [] v order =
+        complete-first m v (member-below (length looms) m v small (last-in m [] v (order .looms-of-m))) (order .first-of-X)
+        (alone m v (λ i. omega (arith, order .looms-of-m i)))
+    complete-end m before small (u ∷ vs) v order =
+        let has = last-in m (u ∷ vs) v (order .looms-of-m) in
+        let rest = before-last m (u ∷ vs) v has (order .looms-of-m) in
+        let less : m - 2 ^ v < m = omega (arith, single-within m v has, pow-pos v) in
+        rw (reached-end next looms start (u ∷ vs) v)
+        (complete-then m v (reached next looms start (u ∷ vs)) (member-below (length looms) m v small has) has
+        (λ only. not-alone (m - 2 ^ v) u vs (omega arith) rest)
+        (before (m - 2 ^ v) less (omega arith) (u ∷ vs) (record { looms-of-m = rest; first-of-X = order .first-of-X })))
+
+    complete-step : (m : ℕ) → ((k : ℕ) → k < m → Complete k) → Complete m
+    unfolding Complete
     complete-step m before small [] order = absurd (order .first-of-X)
-    complete-step m before small (u ∷ us) order = ?
+    complete-step m before small (u ∷ us) order =
+        let last = last-loom u us in
+        subst (λ (l : List ℕ). bit (wordAt m) (reached next looms start l) ≡ 1) (sym (last .2))
+        (complete-end m before small (last .0) (last .1) (subst (OrderOf m) (last .2) order))
+
+    pub word-complete : (m : ℕ) → m < 2 ^ length looms → (us : List ℕ) → OrderOf m us → bit (wordAt m) (reached next looms start us) ≡ 1
+    unfolding Complete
+    word-complete = by-less Complete complete-step

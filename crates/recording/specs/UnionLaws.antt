@@ -7,7 +7,7 @@ use native.Mathlib.Decide.{decLe, ℕ-discrete}
 use native.Mathlib.Omega.{arith}
 use lib.Bits.{bitOr}
 use Rattle.sets.specs.Sets.{bit}
-use Rattle.recording.specs.Scratch.{bit-small, bit-beyond, below-by-members, bit-zero, bit-or, bit-single-other}
+use Rattle.sets.specs.SetsLaws.{bit-small, bit-beyond, below-by-members, bit-zero, bit-or, bit-single-other}
 
 -- A member of a union is a member of one of the two, and the other way round.
 pub in-union : (a b q : ℕ) → bit (bitOr a b) q ≡ 1 → (bit a q ≡ 1) ⊎ (bit b q ≡ 1)
