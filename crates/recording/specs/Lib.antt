@@ -1,5 +1,6 @@
 pub mod OrdersLaws
 pub mod Recording
+pub mod SetLaws
 pub mod UnionLaws
 pub mod Words
 pub mod WordsLaws
