@@ -1,3 +1,5 @@
+pub mod Check
+pub mod Fitting
 pub mod OrdersLaws
 pub mod Recording
 pub mod SetLaws
