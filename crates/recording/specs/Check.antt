@@ -61,13 +61,17 @@ abbrev pub pickJudged : Bool → Judged → Judged → Judged
 pickJudged true j k = j
 pickJudged false j k = k
 
+-- The start is in a side's set, and the other side has not one loom.
+abbrev pub comesBack : ℕ → ℕ → ℕ → Bool
+comesBack start set others = both (hasOf set start) (not (eqb others 1))
+
 -- "20: a state in both sets. 21: start in the set of A, B not one loom. 22: start in the set of B, A not one loom." "Place: [...] the
 -- lowest shared state for 20, the start for 21 and 22, else 0." `ofA` and `ofB` are the sides' counts, a and b their sets.
 unfoldable pub verdictOf : ℕ → ℕ → ℕ → ℕ → ℕ → Judged
 verdictOf start ofA ofB a b =
     pickJudged (not (eqb (bitAnd a b) 0)) (judgement 20 (lowestOf wordBits (bitAnd a b)) a b)
-    (pickJudged (both (hasOf a start) (not (eqb ofB 1))) (judgement 21 start a b)
-    (pickJudged (both (hasOf b start) (not (eqb ofA 1))) (judgement 22 start a b) (judgement 0 0 a b)))
+    (pickJudged (comesBack start a ofB) (judgement 21 start a b)
+    (pickJudged (comesBack start b ofA) (judgement 22 start a b) (judgement 0 0 a b)))
 
 -- The set of side X, and its words, by a certificate over a table.
 abbrev pub setBy : List ℕ → ℕ → Certificate → ℕ → ℕ

@@ -1,5 +1,7 @@
 pub mod Check
+pub mod CheckLaws
 pub mod Fitting
+pub mod FittingLaws
 pub mod OrdersLaws
 pub mod Recording
 pub mod SetLaws

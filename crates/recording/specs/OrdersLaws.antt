@@ -48,9 +48,9 @@ taken-out m j has =
     let above : ℕ = m / 2 ^ j - 1 in
     let odd : m / 2 ^ j ≡ suc above = omega arith in
     let left : m - 2 ^ j ≡ above * 2 ^ j + m % 2 ^ j =
-          omega (arith, split m j, ap (λ (x : ℕ). x * 2 ^ j) odd, suc-mul above (2 ^ j)) in
+    omega (arith, split m j, ap (λ (x : ℕ). x * 2 ^ j) odd, suc-mul above (2 ^ j)) in
     let quotient : (m - 2 ^ j) / 2 ^ j ≡ above =
-          ap (λ (x : ℕ). x / 2 ^ j) left ∙ high above j (mod-lt m (pow-pos j)) in
+    ap (λ (x : ℕ). x / 2 ^ j) left ∙ high above j (mod-lt m (pow-pos j)) in
     omega arith
 
 -- A set that lacks loom j, and the set of j alone, have no digit in common.

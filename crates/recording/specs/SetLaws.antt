@@ -51,29 +51,32 @@ module _ (next : ℕ → ℕ → ℕ) (looms : List Seat) (states start X : ℕ)
   -- Bit q of word m is set exactly when some order of exactly the looms in m, a loom of X first, reaches q.
   pub word-members : (m q : ℕ) → m < 2 ^ length looms
       → (bit (wordAt next looms states start X m) q ≡ 1) ↔ ReachedBy next looms states start X m q
-  word-members m q small =
-      (word-sound next looms states start X m q,
-      λ by. subst (λ (p : ℕ). bit (wordAt next looms states start X m) p ≡ 1) (by .2)
-      (word-complete next looms states start X closed m small (by .0) (by .1)))
+  word-members m q small = (
+    word-sound next looms states start X m q,
+    λ by. subst (λ (p : ℕ). bit (wordAt next looms states start X m) p ≡ 1) (by .2)
+        (word-complete next looms states start X closed m small (by .0) (by .1)),
+  )
 
   in-order : (m q : ℕ) → m < 2 ^ length looms → ReachedBy next looms states start X m q → InSet next looms start X q
-  in-order m q small by =
-      (by .0,
-      record {
-        looms-of-it = λ k past. by .1 .looms-of-m k ∙ bit-beyond (length looms) m k small past;
-        each-once = λ k. omega (arith, by .1 .looms-of-m k, bit-small m k);
-        first-of-X = by .1 .first-of-X
-      },
-      by .2)
+  in-order m q small by = (
+    by .0,
+    record {
+      looms-of-it = λ k past. by .1 .looms-of-m k ∙ bit-beyond (length looms) m k small past;
+      each-once = λ k. omega (arith, by .1 .looms-of-m k, bit-small m k);
+      first-of-X = by .1 .first-of-X;
+    },
+    by .2,
+  )
 
   of-order : (q : ℕ) → InSet next looms start X q
       → (m : ℕ) × (m < 2 ^ length looms) × ReachedBy next looms states start X m q
   of-order q by =
       let us = by .0 in
-      let digits = standing-digits us (by .1 .each-once) in
-      (standing us,
-      below-by-members (length looms) (standing us) (λ k past. digits k ∙ by .1 .looms-of-it k past),
-      (us, record { looms-of-m = λ k. sym (digits k); first-of-X = by .1 .first-of-X }, by .2))
+      let digits = standing-digits us (by .1 .each-once) in (
+        standing us,
+        below-by-members (length looms) (standing us) (λ k past. digits k ∙ by .1 .looms-of-it k past),
+        (us, record { looms-of-m = λ k. sym (digits k); first-of-X = by .1 .first-of-X }, by .2),
+      )
 
   -- A state of the set stands in one of its words.
   in-some-word : (q : ℕ) → bit (setOf next looms states start X) q ≡ 1
@@ -81,10 +84,11 @@ module _ (next : ℕ → ℕ → ℕ) (looms : List Seat) (states start X : ℕ)
   unfolding setOf
   in-some-word q has =
       ⊎-elim (λ none. absurd (empty-has-none q none))
-      (λ there. let small : there .0 < size = omega (arith, there .1, length-filled next looms states start X size) in
-      (there .0,
-      small,
-      subst (λ (w : ℕ). bit w q ≡ 1) (filled-at next looms states start X size (there .0) small) (there .2)))
+      (λ there. let small : there .0 < size = omega (arith, there .1, length-filled next looms states start X size) in (
+        there .0,
+        small,
+        subst (λ (w : ℕ). bit w q ≡ 1) (filled-at next looms states start X size (there .0) small) (there .2),
+      ))
       (in-union-of 0 (filled next looms states start X size) q has)
     where
       size : ℕ
@@ -97,10 +101,12 @@ module _ (next : ℕ → ℕ → ℕ) (looms : List Seat) (states start X : ℕ)
     where
       size : ℕ
       size = 2 ^ length looms
+
       into : bit (setOf next looms states start X) q ≡ 1 → InSet next looms start X q
       into has =
           let there = in-some-word q has in
           in-order (there .0) q (there .1) (word-sound next looms states start X (there .0) q (there .2))
+
       back : InSet next looms start X q → bit (setOf next looms states start X) q ≡ 1
       back by =
           let there = of-order q by in
@@ -122,6 +128,6 @@ module _ (next : ℕ → ℕ → ℕ) (looms : List Seat) (states start X : ℕ)
           go (inr has) =
               let there = in-some-word q has in
               let small : wordAt next looms states start X (there .0) < 2 ^ states =
-                    unfold wordAt in word-below next looms states start X closed
-                    (filled next looms states start X (there .0)) (there .0) (length looms) (le-refl (length looms)) in
+              unfold wordAt in word-below next looms states start X closed
+              (filled next looms states start X (there .0)) (there .0) (length looms) (le-refl (length looms)) in
               absurd (omega (arith, there .2, bit-beyond states (wordAt next looms states start X (there .0)) q small past))

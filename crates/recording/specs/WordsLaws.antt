@@ -8,6 +8,7 @@ use mathlib.Core.Bool.{Bool, true, false}
 use mathlib.Core.List.{List, [], _∷_, _++_}
 use native.Mathlib.Decide.{decLe, decLt, ℕ-discrete}
 use native.Mathlib.Nat.{le-refl, not-suc-le-zero, eq-or-lt-of-le, le-of-suc-le-suc}
+use native.Mathlib.Numerals.{add-one}
 use native.Mathlib.Omega.{arith}
 use borrow.Author.Tests.{eqb-true, eqb-false, eq-eqb, ne-eqb}
 use lib.Bits.{bitOr}
@@ -29,6 +30,16 @@ use Rattle.recording.specs.Words.{pickSet, withIf, advanced, unionOf, fi
 -- q is where a member of the set, below k, moves to.
 abbrev pub MovedTo : (ℕ → ℕ) → ℕ → ℕ → ℕ → Type 0
 MovedTo move set k q = (p : ℕ) × (p < k) × (bit set p ≡ 1) × (move p ≡ q)
+
+-- One more state, as the code takes them in turn.
+pub advanced-with : (move : ℕ → ℕ) (set k : ℕ) → hasOf set k ≡ true
+    → advanced move set (k + 1) ≡ bitOr (advanced move set k) (2 ^ move k)
+unfolding advanced
+advanced-with move set k has = rw (add-one k) (rw has refl)
+
+pub advanced-past : (move : ℕ → ℕ) (set k : ℕ) → hasOf set k ≡ false → advanced move set (k + 1) ≡ advanced move set k
+unfolding advanced
+advanced-past move set k lacks = rw (add-one k) (rw lacks refl)
 
 one-further : (move : ℕ → ℕ) (set k q : ℕ) → MovedTo move set k q → MovedTo move set (suc k) q
 one-further move set k q m = (m .0, omega (arith, m .1), m .2, m .3)
@@ -146,9 +157,11 @@ module _ (next : ℕ → ℕ → ℕ) (looms : List Seat) (states start X : ℕ)
     where
       moved : ℕ
       moved = advanced (next (operationAt looms j)) (getD earlier (m - 2 ^ j) 0) states
+
       by : (b : Bool) → eqb m (2 ^ j) ≡ b → bit (pickSet b (firstBy next looms states start X j) moved) q ≡ 1 → Brought earlier m j q
       by true e has = let first = in-first j q has in inl (eqb-true m (2 ^ j) e, first .0, first .1)
       by false e has = inr (in-advanced (next (operationAt looms j)) (getD earlier (m - 2 ^ j) 0) states q has)
+
       go : (b : Bool) → hasOf m j ≡ b
           → bit (pickSet b (pickSet (eqb m (2 ^ j)) (firstBy next looms states start X j) moved) 0) q ≡ 1
           → (bit m j ≡ 1) × Brought earlier m j q
@@ -186,6 +199,7 @@ module _ (next : ℕ → ℕ → ℕ) (looms : List Seat) (states start X : ℕ)
     where
       rest : ℕ
       rest = wordFrom next looms states start X earlier m k
+
       go : Dec (j ≡ k) → (j < k → bit rest q ≡ 1) → bit (bitOr rest (lastBy next looms states start X earlier m k)) q ≡ 1
       go (yes same) before =
           union-second rest (lastBy next looms states start X earlier m k) q
@@ -203,20 +217,22 @@ module _ (next : ℕ → ℕ → ℕ) (looms : List Seat) (states start X : ℕ)
   ReachedBy m q = (us : List ℕ) × OrderOf m us × (reached next looms start us ≡ q)
 
   reached-first : (m j q : ℕ) → m ≡ 2 ^ j → sideAt looms j ≡ X → next (operationAt looms j) start ≡ q → ReachedBy m q
-  reached-first m j q only side goes =
-      (j ∷ [],
-      record { looms-of-m = λ i. omega (arith, ap (λ (x : ℕ). bit x i) only, single-digits j i); first-of-X = side },
-      goes)
+  reached-first m j q only side goes = (
+    j ∷ [],
+    record { looms-of-m = λ i. omega (arith, ap (λ (x : ℕ). bit x i) only, single-digits j i); first-of-X = side },
+    goes,
+  )
 
   reached-then : (m j p q : ℕ) → bit m j ≡ 1 → ReachedBy (m - 2 ^ j) p → next (operationAt looms j) p ≡ q → ReachedBy m q
   reached-then m j p q has before goes =
-      let us = before .0 in
-      (us ++ (j ∷ []),
-      record {
-        looms-of-m = λ i. times-end i us j ∙ omega (arith, before .1 .looms-of-m i, without m j has i);
-        first-of-X = first-end looms X us j (before .1 .first-of-X)
-      },
-      reached-end next looms start us j ∙ ap (next (operationAt looms j)) (before .2) ∙ goes)
+      let us = before .0 in (
+        us ++ (j ∷ []),
+        record {
+          looms-of-m = λ i. times-end i us j ∙ omega (arith, before .1 .looms-of-m i, without m j has i);
+          first-of-X = first-end looms X us j (before .1 .first-of-X);
+        },
+        reached-end next looms start us j ∙ ap (next (operationAt looms j)) (before .2) ∙ goes,
+      )
 
   -- Without loom j a word is an earlier one.
   earlier-word : (m j : ℕ) → bit m j ≡ 1 → getD (filled next looms states start X m) (m - 2 ^ j) 0 ≡ wordAt (m - 2 ^ j)
@@ -228,12 +244,14 @@ module _ (next : ℕ → ℕ → ℕ) (looms : List Seat) (states start X : ℕ)
     where
       earlier : List ℕ
       earlier = filled next looms states start X m
+
       by : (j : ℕ) → bit m j ≡ 1 → Brought earlier m j q → ReachedBy m q
       by j has (inl first) = reached-first m j q (first .0) (first .1) (first .2)
       by j has (inr moved) =
           reached-then m j (moved .0) q has
           (before (m - 2 ^ j) (omega (arith, single-within m j has, pow-pos j)) (moved .0)
           (subst (λ (w : ℕ). bit w (moved .0) ≡ 1) (earlier-word m j has) (moved .2))) (moved .3)
+
       go : (j : ℕ) × (j < length looms) × (bit (lastBy next looms states start X earlier m j) q ≡ 1) → ReachedBy m q
       go j = let last = in-last earlier m (j .0) q (j .2) in by (j .0) (last .0) (last .1)
 

@@ -2,20 +2,22 @@
 ghost use mathlib.Core.Path.{_≡_};
 ghost use mathlib.Core.List.{_++_};
 ghost use Prim.Native.Nat.{ℕ, _^_, _≤_, _<_};
+ghost use lib.Bits.{bitOr};
 ghost use lib.Dec.{eqb};
 ghost use lib.ListN.{length, drop, take};
 ghost use Rattle.sets.specs.Sets.{hasOf};
 ghost use Rattle.cell.specs.Table.{entryOf};
 ghost use Rattle.cell.specs.Limits.{edition};
 ghost use Rattle.recording.specs.Recording.{one, sideCount};
-ghost use Rattle.recording.specs.Words.{withIf, advanced, unionOf};
-ghost use Rattle.recording.specs.Check.{misfitOf, firstMisfit, loomsFault, faultOf, verdictOf, judgedOf, checkOf, areaOf};
+ghost use Rattle.recording.specs.Words.{advanced, unionOf};
+ghost use Rattle.recording.specs.Check.{misfitOf, firstMisfit, loomsFault, faultOf, comesBack, verdictOf, judgedOf, checkOf, areaOf};
 ghost use Rattle.recording.specs.Fitting.{Steps, Fitting, wordsTo, wordBy, lastIn, firstIn};
 use cell::Formed;
 use cell::Moved;
 
 // Side A by its number, and side B.
 const A: usize = 0;
+
 const B: usize = 1;
 
 // One loom's seat in a certificate: its side (0 for A, 1 for B) and its operation, as plain numbers, since a wrong one is refused.
@@ -56,12 +58,10 @@ pub fn check(
     certificate: Certificate,
     area: &mut [u64],
 ) -> Checked
-    ensures {
-        λ r. ⌜ (r ≡ checkOf (now (table .entry)) states operations certificate (length (now (area .entry))))
-            × (now (area .exit) ≡ areaOf (now (table .entry)) states operations certificate (now (area .entry))) ⌝
-    }
+    ensures { λ r. ⌜ (r ≡ checkOf (now (table .entry)) states operations certificate (length (now (area .entry))))
+        × (now (area .exit) ≡ areaOf (now (table .entry)) states operations certificate (now (area .entry))) ⌝ }
 {
-    let j = judged(table, states, operations, certificate, area);
+    let j = judge(table, states, operations, certificate, area);
     Checked {
         code: j.code,
         place: j.place,
@@ -71,17 +71,15 @@ pub fn check(
 }
 
 // The same with the sets themselves, which opening a group keeps.
-pub fn judged(
+pub fn judge(
     table: &[u8],
     states: usize,
     operations: usize,
     certificate: Certificate,
     area: &mut [u64],
 ) -> Judged
-    ensures {
-        λ r. ⌜ (r ≡ judgedOf (now (table .entry)) states operations certificate (length (now (area .entry))))
-            × (now (area .exit) ≡ areaOf (now (table .entry)) states operations certificate (now (area .entry))) ⌝
-    }
+    ensures { λ r. ⌜ (r ≡ judgedOf (now (table .entry)) states operations certificate (length (now (area .entry))))
+        × (now (area .exit) ≡ areaOf (now (table .entry)) states operations certificate (now (area .entry))) ⌝ }
 {
     let f = fault(table, states, operations, certificate, area.len());
     if f.code != 0 {
@@ -144,10 +142,7 @@ fn looms_fault(operations: usize, certificate: Certificate, room: usize) -> Form
         return Formed { code: 9, place: 0 };
     }
     if room < 2 * power(count) {
-        return Formed {
-            code: 40,
-            place: 0,
-        };
+        return Formed { code: 40, place: 0 };
     }
     Formed { code: 0, place: 0 }
 }
@@ -195,7 +190,7 @@ fn side_count(side: usize, seats: [Seat; 8], count: usize) -> usize
 
 // 1 where two side numbers are the same, else 0.
 fn same(a: usize, b: usize) -> usize
-    ensures { λ r. ⌜ r ≡ one (eqb a b) ⌝ }
+    ensures { λ r. ⌜ (r ≡ one (eqb a b)) × (r ≤ 1) ⌝ }
 {
     if a == b { 1 } else { 0 }
 }
@@ -219,10 +214,8 @@ fn fill(
 ) -> u64
     requires { ⌜ Fitting (now table) states certificate ⌝ }
     requires { ⌜ size ≤ length (now area) ⌝ }
-    ensures {
-        λ r. ⌜ (r ≡ unionOf 0 (wordsTo (now (table .entry)) states certificate side size))
-            × (now (area .exit) ≡ wordsTo (now (table .entry)) states certificate side size ++ drop size (now (area .entry))) ⌝
-    }
+    ensures { λ r. ⌜ (r ≡ unionOf 0 (wordsTo (now (table .entry)) states certificate side size))
+        × (now (area .exit) ≡ wordsTo (now (table .entry)) states certificate side size ++ drop size (now (area .entry))) ⌝ }
 {
     let mut set = 0;
     let mut m = 0;
@@ -251,7 +244,10 @@ fn word(
     let mut set = 0;
     let mut j = 0;
     while j < certificate.count {
-        set = sets::union(set, last_by(table, states, certificate, side, earlier, m, j));
+        set = sets::union(
+            set,
+            last_by(table, states, certificate, side, earlier, m, j),
+        );
         j += 1;
     }
     set
@@ -317,7 +313,7 @@ fn advance(table: &[u8], states: usize, operation: usize, set: u64) -> u64
 fn moved(table: &[u8], states: usize, operation: usize, q: usize, set: u64) -> u64
     requires { ⌜ Steps (now table) states operation ⌝ }
     requires { ⌜ q < states ⌝ }
-    ensures { λ r. ⌜ r ≡ withIf true set (entryOf (now (table .entry)) states operation q) ⌝ }
+    ensures { λ r. ⌜ r ≡ bitOr set (2 ^ entryOf (now (table .entry)) states operation q) ⌝ }
 {
     match cell::next(table, states, operation, q) {
         Moved::To(to) => sets::insert(set, to as usize),
@@ -338,25 +334,21 @@ fn verdict(start: usize, of_a: usize, of_b: usize, a: u64, b: u64) -> Judged
             b,
         };
     }
-    if sets::has(a, start) {
-        if of_b != 1 {
-            return Judged {
-                code: 21,
-                place: start,
-                a,
-                b,
-            };
-        }
+    if comes_back(start, a, of_b) {
+        return Judged {
+            code: 21,
+            place: start,
+            a,
+            b,
+        };
     }
-    if sets::has(b, start) {
-        if of_a != 1 {
-            return Judged {
-                code: 22,
-                place: start,
-                a,
-                b,
-            };
-        }
+    if comes_back(start, b, of_a) {
+        return Judged {
+            code: 22,
+            place: start,
+            a,
+            b,
+        };
     }
     Judged {
         code: 0,
@@ -364,4 +356,14 @@ fn verdict(start: usize, of_a: usize, of_b: usize, a: u64, b: u64) -> Judged
         a,
         b,
     }
+}
+
+// Whether the start is in a side's set, and the other side has not one loom.
+fn comes_back(start: usize, set: u64, others: usize) -> bool
+    ensures { λ r. ⌜ r ≡ comesBack start set others ⌝ }
+{
+    if sets::has(set, start) {
+        return others != 1;
+    }
+    false
 }
