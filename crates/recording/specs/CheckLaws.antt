@@ -13,10 +13,10 @@ use lib.ListN.{length, getD, take, drop, drop-of-length-le}
 use lib.Seq.{drop-cons, getD-take, length-take-le}
 use Rattle.sets.specs.Sets.{lowestOf, wordBits}
 use Rattle.cell.specs.Limits.{edition}
-use Rattle.cell.specs.Table.{formed}
+use Rattle.cell.specs.Table.{formed, formOf}
 use Rattle.recording.specs.declared.Certificate.{Certificate}
 use Rattle.recording.specs.declared.Seat.{Seat}
-use Rattle.recording.specs.Check.{loomsOf, misfitOf, firstMisfit, roomFor, loomsFault, judgement, comesBack, verdictOf}
+use Rattle.recording.specs.Check.{loomsOf, misfitOf, firstMisfit, roomFor, loomsFault, faultOf, judgement, comesBack, verdictOf}
 use Rattle.recording.specs.Recording.{emptySeat, one, sideCount}
 
 -- The looms are the first `count` seats: as many, and loom k is seat k.
@@ -97,6 +97,21 @@ module _ (operations : ℕ) (c : Certificate) (room : ℕ) where
             unfolding loomsFault
             fault-none h =
                 rw (le-ltb (c .count) 2 several, le-ltb (edition .looms) (c .count) few, le-ltb (firstMisfit operations (loomsOf c)) (c .count) fitted, ne-eqb (sideCount 0 (loomsOf c)) 0 someA, ne-eqb (sideCount 1 (loomsOf c)) 0 someB, le-ltb room (roomFor (c .count)) h)
+
+-- All refusals that leave the area alone, one law for each way.
+module _ (table : List ℕ) (states operations : ℕ) (c : Certificate) (room : ℕ) where
+  pub fault-form : (formOf table states operations .code ≡ 0 → ⊥) → faultOf table states operations c room ≡ formOf table states operations
+  unfolding faultOf
+  fault-form bad = rw (ne-eqb (formOf table states operations .code) 0 bad)
+
+  module _ (formed-well : formOf table states operations .code ≡ 0) where
+    pub fault-start : states ≤ c .start → faultOf table states operations c room ≡ formed 6 0
+    unfolding faultOf
+    fault-start beyond = rw (eq-eqb (formOf table states operations .code) 0 formed-well, le-leb states (c .start) beyond)
+
+    pub fault-looms : c .start < states → faultOf table states operations c room ≡ loomsFault operations c room
+    unfolding faultOf
+    fault-looms within = rw (eq-eqb (formOf table states operations .code) 0 formed-well, lt-leb states (c .start) within)
 
 -- The verdict, one law for each way that it ends.
 module _ (start ofA ofB a b : ℕ) where

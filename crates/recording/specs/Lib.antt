@@ -1,5 +1,6 @@
 pub mod Check
 pub mod CheckLaws
+pub mod FillLaws
 pub mod Fitting
 pub mod FittingLaws
 pub mod OrdersLaws
