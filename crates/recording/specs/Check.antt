@@ -14,6 +14,7 @@ use Rattle.recording.specs.declared.Seat.{Seat}
 use Rattle.recording.specs.declared.Certificate.{Certificate}
 use Rattle.recording.specs.declared.Judged.{Judged}
 use Rattle.recording.specs.declared.Checked.{Checked}
+use Rattle.recording.specs.declared.Filled.{Filled}
 use Rattle.recording.specs.Recording.{sideCount}
 use Rattle.recording.specs.Words.{filled, setOf}
 
@@ -73,12 +74,20 @@ verdictOf start ofA ofB a b =
     (pickJudged (comesBack start a ofB) (judgement 21 start a b)
     (pickJudged (comesBack start b ofA) (judgement 22 start a b) (judgement 0 0 a b)))
 
--- The set of side X, and its words, by a certificate over a table.
+-- The verdict on a certificate with these two sets.
+abbrev pub verdictOn : Certificate → ℕ → ℕ → Judged
+verdictOn c a b = verdictOf (c .start) (sideCount 0 (loomsOf c)) (sideCount 1 (loomsOf c)) a b
+
+-- The set of side X, by a certificate over a table.
 abbrev pub setBy : List ℕ → ℕ → Certificate → ℕ → ℕ
 setBy table states c X = setOf (entryOf table states) (loomsOf c) states (c .start) X
 
-abbrev pub wordsBy : List ℕ → ℕ → Certificate → ℕ → List ℕ
-wordsBy table states c X = filled (entryOf table states) (loomsOf c) states (c .start) X (2 ^ c .count)
+-- The two sets.
+abbrev pub filledSets : ℕ → ℕ → Filled
+filledSets a b = record { a = a; b = b }
+
+abbrev pub setsBy : List ℕ → ℕ → Certificate → Filled
+setsBy table states c = filledSets (setBy table states c 0) (setBy table states c 1)
 
 abbrev pub judgedBy : Formed → Judged → Judged
 judgedBy fault verdict = pickJudged (eqb (fault .code) 0) verdict (judgement (fault .code) (fault .place) 0 0)
@@ -86,8 +95,7 @@ judgedBy fault verdict = pickJudged (eqb (fault .code) 0) verdict (judgement (fa
 -- The check's code and place, and the two sets: given with 0 and 20 to 22, else empty.
 unfoldable pub judgedOf : List ℕ → ℕ → ℕ → Certificate → ℕ → Judged
 judgedOf table states operations c room =
-    judgedBy (faultOf table states operations c room)
-    (verdictOf (c .start) (sideCount 0 (loomsOf c)) (sideCount 1 (loomsOf c)) (setBy table states c 0) (setBy table states c 1))
+    judgedBy (faultOf table states operations c room) (verdictOn c (setBy table states c 0) (setBy table states c 1))
 
 -- "The check's answer is a code, a place and the number of states in each set." "Set sizes are given with 0 and 20 to 22, else both 0."
 abbrev pub sizesOf : Judged → Checked
@@ -101,10 +109,15 @@ abbrev pub pickWords : Bool → List ℕ → List ℕ → List ℕ
 pickWords true l m = l
 pickWords false l m = m
 
--- "Word m of the first 2^n words afterwards holds [the states of A]; word 2^n + m the same for B. Later words stay as they were." A
--- refusal by 2 to 9 or 40 writes nothing.
+-- The words of side X.
+abbrev pub wordsBy : List ℕ → ℕ → Certificate → ℕ → List ℕ
+wordsBy table states c X = filled (entryOf table states) (loomsOf c) states (c .start) X (2 ^ c .count)
+
+-- "Word m of the first 2^n words afterwards holds [the states of A]; word 2^n + m the same for B. Later words stay as they were."
+abbrev pub wordsOver : List ℕ → ℕ → Certificate → List ℕ → List ℕ
+wordsOver table states c area = wordsBy table states c 0 ++ wordsBy table states c 1 ++ drop (roomFor (c .count)) area
+
+-- "A refusal writes nothing to lent memory", with the exception that past 2 to 9 and 40 the area is filled.
 unfoldable pub areaOf : List ℕ → ℕ → ℕ → Certificate → List ℕ → List ℕ
 areaOf table states operations c area =
-    pickWords (eqb (faultOf table states operations c (length area) .code) 0)
-    (wordsBy table states c 0 ++ wordsBy table states c 1 ++ drop (roomFor (c .count)) area)
-    area
+    pickWords (eqb (faultOf table states operations c (length area) .code) 0) (wordsOver table states c area) area

@@ -6,8 +6,9 @@ use mathlib.Core.Path.{_≡_}
 use mathlib.Core.List.{List}
 use lib.Dec.{eqb}
 use lib.ListN.{length}
+use Rattle.cell.specs.declared.Moved.the-variants.{To}
 use Rattle.cell.specs.Limits.{edition}
-use Rattle.cell.specs.Table.{position, entryOf}
+use Rattle.cell.specs.Table.{entryOf, nextOf}
 use Rattle.recording.specs.declared.Seat.{Seat}
 use Rattle.recording.specs.declared.Certificate.{Certificate}
 use Rattle.recording.specs.Check.{loomsOf}
@@ -17,9 +18,8 @@ use Rattle.recording.specs.Words.{pickSet, lastBy, wordFrom, filled}
 -- The lookup of this operation is not refused in any state, and leads to a state.
 pub record Steps (table : List ℕ) (states operation : ℕ) : Type 0 where
   pub few : states ≤ edition .states
-  pub fitted : operation < edition .operations
-  pub there : (q : ℕ) → q < states → position states operation q < length table
   pub leads : (q : ℕ) → q < states → entryOf table states operation q < states
+  pub found : (q : ℕ) → q < states → nextOf table states operation q ≡ To (entryOf table states operation q)
 
 -- The start is a state, the looms are within the limit, and so is each operation.
 pub record Fitting (table : List ℕ) (states : ℕ) (c : Certificate) : Type 0 where

@@ -15,7 +15,6 @@ use Rattle.sets.specs.SetsLaws.{inserted-is}
 use Rattle.cell.specs.declared.Moved.{Moved}
 use Rattle.cell.specs.declared.Moved.the-variants.{To, Refused}
 use Rattle.cell.specs.Table.{entryOf, nextOf}
-use Rattle.cell.specs.TableLaws.{moved-to}
 use Rattle.recording.specs.declared.Certificate.{Certificate}
 use Rattle.recording.specs.declared.Seat.{Seat}
 use Rattle.recording.specs.Fitting.{Steps, Fitting, wordBy, lastIn, firstIn}
@@ -23,19 +22,15 @@ use Rattle.recording.specs.Recording.{emptySeat}
 use Rattle.recording.specs.Words.{advanced, firstBy, lastBy, wordFrom}
 
 module _ (table : List ℕ) (states operation q : ℕ) (steps : Steps table states operation) (state : q < states) where
-  pub lookup : nextOf table states operation q ≡ To (entryOf table states operation q)
-  lookup =
-      moved-to table states operation q (steps .few) (steps .fitted) state (steps .there q state) (steps .leads q state)
-
   -- The state that the lookup answers, put into a set.
   pub put-next : (answer : Moved) (to set r : ℕ) → answer ≡ nextOf table states operation q → answer ≡ To to
       → Inserted wordBits set to r → r ≡ bitOr set (2 ^ entryOf table states operation q)
   put-next answer to set r looked found put =
-      let same : to ≡ entryOf table states operation q = cc lookup in
+      let same : to ≡ entryOf table states operation q = cc (steps .found q state) in
       inserted-is wordBits set to r put (omega (arith, steps .few, steps .leads q state)) ∙ ap (λ (p : ℕ). bitOr set (2 ^ p)) same
 
   pub not-refused : (answer : Moved) → answer ≡ nextOf table states operation q → answer ≡ Refused → ⊥
-  not-refused answer looked found = let z : _≡_ {A = ℕ} 0 1 = cc lookup in omega arith
+  not-refused answer looked found = let z : _≡_ {A = ℕ} 0 1 = cc (steps .found q state) in omega arith
 
 -- What loom j adds to word m, one law for each way, by its seat.
 module _ (table : List ℕ) (states : ℕ) (c : Certificate) (X : ℕ) (earlier : List ℕ) (m j : ℕ) where

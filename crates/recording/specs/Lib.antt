@@ -1,3 +1,4 @@
+pub mod AdmittedLaws
 pub mod Check
 pub mod CheckLaws
 pub mod FillLaws

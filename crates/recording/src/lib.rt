@@ -10,7 +10,7 @@ ghost use Rattle.cell.specs.Table.{entryOf};
 ghost use Rattle.cell.specs.Limits.{edition};
 ghost use Rattle.recording.specs.Recording.{one, sideCount};
 ghost use Rattle.recording.specs.Words.{advanced, unionOf};
-ghost use Rattle.recording.specs.Check.{misfitOf, firstMisfit, loomsFault, faultOf, comesBack, verdictOf, judgedOf, checkOf, areaOf};
+ghost use Rattle.recording.specs.Check.{misfitOf, firstMisfit, loomsFault, faultOf, comesBack, roomFor, verdictOf, verdictOn, setsBy, wordsOver, judgedOf, checkOf, areaOf};
 ghost use Rattle.recording.specs.Fitting.{Steps, Fitting, wordsTo, wordBy, lastIn, firstIn};
 use cell::Formed;
 use cell::Moved;
@@ -47,6 +47,12 @@ pub struct Checked {
     pub place: usize,
     pub a: usize,
     pub b: usize,
+}
+
+// The sets of A and of B.
+struct Filled {
+    a: u64,
+    b: u64,
 }
 
 // Whether the certificate is recording over the table: code 0, else the first code that refuses it, with its place. The area has to hold
@@ -90,13 +96,8 @@ pub fn judge(
             b: 0,
         };
     }
-    let size = power(certificate.count);
-    let a = fill(table, states, certificate, A, size, area);
-    let b = fill(table, states, certificate, B, size, &mut area[size..]);
-    let seats = certificate.seats;
-    let of_a = side_count(A, seats, certificate.count);
-    let of_b = side_count(B, seats, certificate.count);
-    verdict(certificate.start, of_a, of_b, a, b)
+    let filled = fill_both(table, states, certificate, area);
+    verdict_on(certificate, filled.a, filled.b)
 }
 
 // Codes 2 to 9 and 40, in that order, with their places; 0 where none applies. `room` is the area's length.
@@ -201,6 +202,19 @@ fn power(count: usize) -> usize
     ensures { λ r. ⌜ r ≡ 2 ^ count ⌝ }
 {
     1 << count
+}
+
+// Writes the words of A and then those of B to the area, and answers the two sets. Later words stay as they were.
+fn fill_both(table: &[u8], states: usize, certificate: Certificate, area: &mut [u64]) -> Filled
+    requires { ⌜ Fitting (now table) states certificate ⌝ }
+    requires { ⌜ roomFor (certificate .count) ≤ length (now area) ⌝ }
+    ensures { λ r. ⌜ (r ≡ setsBy (now (table .entry)) states certificate)
+        × (now (area .exit) ≡ wordsOver (now (table .entry)) states certificate (now (area .entry))) ⌝ }
+{
+    let size = power(certificate.count);
+    let a = fill(table, states, certificate, A, size, area);
+    let b = fill(table, states, certificate, B, size, &mut area[size..]);
+    Filled { a, b }
 }
 
 // Writes the words of a side to the first `size` of the area, and answers their union: the side's set.
@@ -319,6 +333,17 @@ fn moved(table: &[u8], states: usize, operation: usize, q: usize, set: u64) -> u
         Moved::To(to) => sets::insert(set, to as usize),
         Moved::Refused => set,
     }
+}
+
+// The verdict on a certificate with these two sets.
+fn verdict_on(certificate: Certificate, a: u64, b: u64) -> Judged
+    requires { ⌜ certificate .count ≤ edition .looms ⌝ }
+    ensures { λ r. ⌜ r ≡ verdictOn certificate a b ⌝ }
+{
+    let seats = certificate.seats;
+    let of_a = side_count(A, seats, certificate.count);
+    let of_b = side_count(B, seats, certificate.count);
+    verdict(certificate.start, of_a, of_b, a, b)
 }
 
 // Codes 20, 21 and 22, in that order, with their places; 0 where none applies.

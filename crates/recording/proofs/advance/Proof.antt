@@ -46,16 +46,17 @@ loop-again : tie.Need-loop-again Inv-loop μ-loop
 loop-again c =
     let args = c .before .before .before .before .before .args in
     let loop = c .before .before .before .loop in
-    let move = entryOf (args .table .now) (args .states) (args .operation) in
-    (omega arith,
-    ⊎-elim
-    (λ w.
-      w .2
-      ∙ w .1 .ensures
-      ∙ ap (λ (x : ℕ). bitOr x (2 ^ move (loop .q))) (loop .inv .1)
-      ∙ sym (advanced-with move (args .set) (loop .q) (sym (c .before .has .ensures) ∙ w .0 .taken)))
-    (λ w. w .1 ∙ loop .inv .1 ∙ sym (advanced-past move (args .set) (loop .q) (sym (c .before .has .ensures) ∙ w .0 .left)))
-    (c .if1 .came))
+    let move = entryOf (args .table .now) (args .states) (args .operation) in (
+      omega arith,
+      ⊎-elim
+          (λ w.
+          w .2
+          ∙ w .1 .ensures
+          ∙ ap (λ (x : ℕ). bitOr x (2 ^ move (loop .q))) (loop .inv .1)
+          ∙ sym (advanced-with move (args .set) (loop .q) (sym (c .before .has .ensures) ∙ w .0 .taken)))
+          (λ w. w .1 ∙ loop .inv .1 ∙ sym (advanced-past move (args .set) (loop .q) (sym (c .before .has .ensures) ∙ w .0 .left)))
+          (c .if1 .came),
+    )
 
 -- src/lib.rt:297:1
 returns : tie.Need-returns Inv-loop μ-loop

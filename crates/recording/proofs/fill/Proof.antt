@@ -56,14 +56,15 @@ loop-again c =
     let start = c .before .before .before .before .before .before .before in
     let args = start .args in
     let loop = c .before .before .before .before .loop in
-    let within : loop .m < length (args .area .now) = omega (arith, start .pre .1, c .before .before .before .loop-test .taken) in
-    (omega arith,
-    fill-more (args .table .now) (args .states) (args .certificate) (start .pre .0) (args .side) (loop .m) (args .area .now) within
-    (loop .area) (loop .inv .1) (c .before .word .result) (c .before .word .ensures),
-    union-is (loop .set) (c .before .word .result) (c .union .result) (c .union .ensures)
-    ∙ union-more (args .table .now) (args .states) (args .certificate) (start .pre .0) (args .side) (loop .m) (args .area .now) within
-    (loop .area) (loop .inv .1) (c .before .word .result) (c .before .word .ensures) (loop .set) (loop .inv .2),
-    length-set (loop .area) (loop .m) (c .before .word .result) ∙ loop .inv .3)
+    let within : loop .m < length (args .area .now) = omega (arith, start .pre .1, c .before .before .before .loop-test .taken) in (
+      omega arith,
+      fill-more (args .table .now) (args .states) (args .certificate) (start .pre .0) (args .side) (loop .m) (args .area .now) within
+          (loop .area) (loop .inv .1) (c .before .word .result) (c .before .word .ensures),
+      union-is (loop .set) (c .before .word .result) (c .union .result) (c .union .ensures)
+          ∙ union-more (args .table .now) (args .states) (args .certificate) (start .pre .0) (args .side) (loop .m) (args .area .now) within
+          (loop .area) (loop .inv .1) (c .before .word .result) (c .before .word .ensures) (loop .set) (loop .inv .2),
+      length-set (loop .area) (loop .m) (c .before .word .result) ∙ loop .inv .3,
+    )
 
 same-length : tie.Need-same-length Inv-loop μ-loop
 same-length c = c .before .loop .inv .3
@@ -74,10 +75,11 @@ ended c = omega arith
 
 returns : tie.Need-returns Inv-loop μ-loop
 returns c =
-    let args = c .before .before .before .before .args in
-    (c .before .loop .inv .2 ∙ ap (λ (n : ℕ). unionOf 0 (wordsTo (args .table .now) (args .states) (args .certificate) (args .side) n)) (ended c),
-    c .before .loop .inv .1
-    ∙ ap (λ (n : ℕ). wordsTo (args .table .now) (args .states) (args .certificate) (args .side) n ++ drop n (args .area .now)) (ended c))
+    let args = c .before .before .before .before .args in (
+      c .before .loop .inv .2 ∙ ap (λ (n : ℕ). unionOf 0 (wordsTo (args .table .now) (args .states) (args .certificate) (args .side) n)) (ended c),
+      c .before .loop .inv .1
+          ∙ ap (λ (n : ℕ). wordsTo (args .table .now) (args .states) (args .certificate) (args .side) n ++ drop n (args .area .now)) (ended c),
+    )
 
 pub fill-spec : {M : Type 1} → statement M
 fill-spec =

@@ -49,9 +49,10 @@ power-requires c κs = search needs
 -- src/lib.rt:278:9
 first-by-requires : tie.Need-first-by-requires
 first-by-requires c κs =
-    let start = c .before .before .before .before .before .before .before .before in
-    (seat-steps (start .args .table .now) (start .args .states) (start .args .certificate) (start .pre .0) (start .args .j) (start .pre .1 .1),
-    start .pre .0 .start-fits)
+    let start = c .before .before .before .before .before .before .before .before in (
+      seat-steps (start .args .table .now) (start .args .states) (start .args .certificate) (start .pre .0) (start .args .j) (start .pre .1 .1),
+      start .pre .0 .start-fits,
+    )
 
 -- src/lib.rt:278:9
 returns-2 : tie.Need-returns-2

@@ -48,11 +48,12 @@ loop-less c = omega arith
 loop-again : tie.Need-loop-again Inv-loop μ-loop
 loop-again c =
     let args = c .before .before .before .before .before .before .before .args in
-    let loop = c .before .before .before .before .loop in
-    (omega arith,
-    union-is (loop .set) (c .before .last-by .result) (c .union .result) (c .union .ensures)
-    ∙ ap₂ bitOr (loop .inv .1) (c .before .last-by .ensures)
-    ∙ sym (word-more (args .table .now) (args .states) (args .certificate) (args .side) (args .earlier .now) (args .m) (loop .j)))
+    let loop = c .before .before .before .before .loop in (
+      omega arith,
+      union-is (loop .set) (c .before .last-by .result) (c .union .result) (c .union .ensures)
+          ∙ ap₂ bitOr (loop .inv .1) (c .before .last-by .ensures)
+          ∙ sym (word-more (args .table .now) (args .states) (args .certificate) (args .side) (args .earlier .now) (args .m) (loop .j)),
+    )
 
 -- src/lib.rt:232:1
 returns : tie.Need-returns Inv-loop μ-loop
