@@ -66,22 +66,28 @@ module _ (table : List ℕ) (states operations : ℕ) (c : Certificate) (room : 
         fitted = fitted;
         some-A = some-A;
         some-B = some-B;
-        enough = enough
+        enough = enough;
       }
     where
       -- a refusal with a code above 0
       not-refused : (code place : ℕ) → 1 ≤ code → loomsFault operations c room ≡ formed code place → ⊥
       not-refused code place above e = let same : loomsFault operations c room .code ≡ code = ap codeOf e in omega arith
+
       several : 2 ≤ c .count
       several = elim (decLe 2 (c .count)) [ yes h ↦ h | no h ↦ absurd (not-refused 7 0 (omega arith) (fault-few operations c room (omega arith))) ]
+
       few : c .count ≤ edition .looms
       few = elim (decLe (c .count) (edition .looms)) [ yes h ↦ h | no h ↦ absurd (not-refused 7 0 (omega arith) (fault-many operations c room several (omega arith))) ]
+
       fitted : c .count ≤ firstMisfit operations (loomsOf c)
       fitted = elim (decLe (c .count) (firstMisfit operations (loomsOf c))) [ yes h ↦ h | no h ↦ absurd (not-refused 8 (firstMisfit operations (loomsOf c)) (omega arith) (fault-misfit operations c room several few (omega arith))) ]
+
       some-A : 1 ≤ sideCount 0 (loomsOf c)
       some-A = elim (decLe 1 (sideCount 0 (loomsOf c))) [ yes h ↦ h | no h ↦ absurd (not-refused 9 0 (omega arith) (fault-no-A operations c room several few fitted (omega arith))) ]
+
       some-B : 1 ≤ sideCount 1 (loomsOf c)
       some-B = elim (decLe 1 (sideCount 1 (loomsOf c))) [ yes h ↦ h | no h ↦ absurd (not-refused 9 0 (omega arith) (fault-no-B operations c room several few fitted (λ e. omega (arith, some-A)) (omega arith))) ]
+
       enough : roomFor (c .count) ≤ room
       enough = elim (decLe (roomFor (c .count)) room) [ yes h ↦ h | no h ↦ absurd (not-refused 40 0 (omega arith) (fault-room operations c room several few fitted (λ e. omega (arith, some-A)) (λ e. omega (arith, some-B)) (omega arith))) ]
 
@@ -91,13 +97,14 @@ module _ (table : List ℕ) (states operations : ℕ) (c : Certificate) (room : 
       form : formOf table states operations .code ≡ 0
       form =
           elim (ℕ-discrete (formOf table states operations .code) 0) [
-            yes h ↦ h
+            | yes h ↦ h
             | no h ↦ absurd (h (ap codeOf (sym (fault-form table states operations c room h)) ∙ none))
           ]
+
       start-fits : c .start < states
       start-fits =
           elim (decLe states (c .start)) [
-            yes h ↦ absurd (let same : faultOf table states operations c room .code ≡ 6 = ap codeOf (fault-start table states operations c room form h) in omega arith)
+            | yes h ↦ absurd (let same : faultOf table states operations c room .code ≡ 6 = ap codeOf (fault-start table states operations c room form h) in omega arith)
             | no h ↦ omega arith
           ]
 
@@ -120,13 +127,13 @@ module _ (table : List ℕ) (states operations : ℕ) (c : Certificate) (room : 
               record {
                 few = ok .form .few-states;
                 leads = λ q state. good-moves table states operations (ok .form) (operationAt (loomsOf c) k) q (operation-fits k within) state .0;
-                found = λ q state. good-moves table states operations (ok .form) (operationAt (loomsOf c) k) q (operation-fits k within) state .1
-              }
+                found = λ q state. good-moves table states operations (ok .form) (operationAt (loomsOf c) k) q (operation-fits k within) state .1;
+              };
         }
 
     pub closed : Closed (entryOf table states) (loomsOf c) states (c .start)
     closed =
         record {
           start-fits = ok .start-fits;
-          steps-fit = λ k q within state. fitting .steps k (omega (arith, counted)) .leads q state
+          steps-fit = λ k q within state. fitting .steps k (omega (arith, counted)) .leads q state;
         }

@@ -97,9 +97,12 @@ unfoldable pub judgedOf : List ℕ → ℕ → ℕ → Certificate → ℕ → J
 judgedOf table states operations c room =
     judgedBy (faultOf table states operations c room) (verdictOn c (setBy table states c 0) (setBy table states c 1))
 
+abbrev pub checked : ℕ → ℕ → ℕ → ℕ → Checked
+checked code place a b = record { code = code; place = place; a = a; b = b }
+
 -- "The check's answer is a code, a place and the number of states in each set." "Set sizes are given with 0 and 20 to 22, else both 0."
 abbrev pub sizesOf : Judged → Checked
-sizesOf j = record { code = j .code; place = j .place; a = sizeOf wordBits (j .a); b = sizeOf wordBits (j .b) }
+sizesOf j = checked (j .code) (j .place) (sizeOf wordBits (j .a)) (sizeOf wordBits (j .b))
 
 unfoldable pub checkOf : List ℕ → ℕ → ℕ → Certificate → ℕ → Checked
 checkOf table states operations c room = sizesOf (judgedOf table states operations c room)

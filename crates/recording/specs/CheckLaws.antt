@@ -16,7 +16,7 @@ use Rattle.cell.specs.Limits.{edition}
 use Rattle.cell.specs.Table.{formed, formOf}
 use Rattle.recording.specs.declared.Certificate.{Certificate}
 use Rattle.recording.specs.declared.Seat.{Seat}
-use Rattle.recording.specs.Check.{loomsOf, misfitOf, firstMisfit, roomFor, loomsFault, faultOf, judgement, comesBack, verdictOf}
+use Rattle.recording.specs.Check.{loomsOf, misfitOf, firstMisfit, roomFor, loomsFault, faultOf, judgement, comesBack, verdictOf, verdictOn, setBy, judgedOf, wordsOver, areaOf}
 use Rattle.recording.specs.Recording.{emptySeat, one, sideCount}
 
 -- The looms are the first `count` seats: as many, and loom k is seat k.
@@ -132,3 +132,26 @@ module _ (start ofA ofB a b : ℕ) where
       pub verdict-accepted : comesBack start b ofA ≡ false → verdictOf start ofA ofB a b ≡ judgement 0 0 a b
       unfolding verdictOf
       verdict-accepted off = rw (eq-eqb (bitAnd a b) 0 apart, away, off)
+
+-- The answer and the area, for a refusal that leaves the area alone and past those.
+module _ (table : List ℕ) (states operations : ℕ) (c : Certificate) (room : ℕ) where
+  pub judged-refused : (faultOf table states operations c room .code ≡ 0 → ⊥)
+      → judgedOf table states operations c room
+      ≡ judgement (faultOf table states operations c room .code) (faultOf table states operations c room .place) 0 0
+  unfolding judgedOf
+  judged-refused refused = rw (ne-eqb (faultOf table states operations c room .code) 0 refused)
+
+  pub judged-past : faultOf table states operations c room .code ≡ 0
+      → judgedOf table states operations c room ≡ verdictOn c (setBy table states c 0) (setBy table states c 1)
+  unfolding judgedOf
+  judged-past past = rw (eq-eqb (faultOf table states operations c room .code) 0 past)
+
+module _ (table : List ℕ) (states operations : ℕ) (c : Certificate) (area : List ℕ) where
+  pub area-refused : (faultOf table states operations c (length area) .code ≡ 0 → ⊥) → areaOf table states operations c area ≡ area
+  unfolding areaOf
+  area-refused refused = rw (ne-eqb (faultOf table states operations c (length area) .code) 0 refused)
+
+  pub area-past : faultOf table states operations c (length area) .code ≡ 0
+      → areaOf table states operations c area ≡ wordsOver table states c area
+  unfolding areaOf
+  area-past past = rw (eq-eqb (faultOf table states operations c (length area) .code) 0 past)

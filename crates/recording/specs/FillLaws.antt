@@ -99,10 +99,13 @@ two-parts ofA ofB area first second size long one two =
   where
     twice : size + size ≡ 2 * size
     twice = omega arith
+
     behind : drop size first ≡ drop size area
     behind = ap (drop size) one ∙ drop-at ofA (drop size area) size long
+
     whole : take (length first - size) (drop size first) ≡ drop size area
     whole = take-all (length first - size) (drop size first) (le-of-eq (length-drop size first)) ∙ behind
+
     none : drop (length first - size) (drop size first) ≡ []
     none = drop-of-length-le (drop size first) {i = length first - size} (le-of-eq (length-drop size first))
 

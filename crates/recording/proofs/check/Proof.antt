@@ -1,4 +1,7 @@
 use borrow.Author.Needs.{needs}
+use Prim.Native.Nat.{ℕ}
+use mathlib.Core.Path.{ap, ap₂, _∙_}
+use Rattle.recording.specs.Check.{checked, sizesOf, checkOf}
 use Rattle.recording.proofs.check.Statement.{statement}
 use Rattle.recording.proofs.check.Tie as tie
 use Rattle.recording.proofs.check.Reads as reads
@@ -24,7 +27,13 @@ same-length c = search needs
 
 -- src/lib.rt:54:1
 returns : tie.Need-returns
-returns c = ?
+unfolding checkOf
+returns c =
+    let judged = c .before .before .before .before .judge in (
+      ap₂ (λ (a b : ℕ). checked (judged .result .code) (judged .result .place) a b) (c .before .size .ensures) (c .size2 .ensures)
+          ∙ ap sizesOf (judged .ensures .0),
+      judged .ensures .1,
+    )
 
 pub check-spec : {M : Type 1} → statement M
 check-spec = tie.close (tie.spec judge-requires size-requires size-requires-2 same-length returns)

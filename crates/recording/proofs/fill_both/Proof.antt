@@ -52,15 +52,16 @@ returns c =
     let args = start .args in
     let power = c .before .before .before .before .before .before .before .before .power in
     let one = c .before .before .before .before .before .before .fill in
-    let two = c .before .before .fill2 in
-    (ap₂ (λ (a b : ℕ). filledSets a b)
-    (one .ensures .0 ∙ set-is (args .table .now) (args .states) (args .certificate) (start .pre .0) 0 (power .result) (power .ensures))
-    (two .ensures .0 ∙ set-is (args .table .now) (args .states) (args .certificate) (start .pre .0) 1 (power .result) (power .ensures)),
-    two-parts (wordsTo (args .table .now) (args .states) (args .certificate) 0 (power .result))
-    (wordsTo (args .table .now) (args .states) (args .certificate) 1 (power .result)) (args .area .now)
-    (one .last .1 .1 .1 .1 .1 .0) (two .last .1 .1 .1 .1 .1 .0) (power .result)
-    (words-length (args .table .now) (args .states) (args .certificate) (start .pre .0) 0 (power .result)) (one .ensures .1) (two .ensures .1)
-    ∙ ap (λ (n : ℕ). wordsTo (args .table .now) (args .states) (args .certificate) 0 n ++ wordsTo (args .table .now) (args .states) (args .certificate) 1 n ++ drop (2 * n) (args .area .now)) (power .ensures))
+    let two = c .before .before .fill2 in (
+      ap₂ (λ (a b : ℕ). filledSets a b)
+          (one .ensures .0 ∙ set-is (args .table .now) (args .states) (args .certificate) (start .pre .0) 0 (power .result) (power .ensures))
+          (two .ensures .0 ∙ set-is (args .table .now) (args .states) (args .certificate) (start .pre .0) 1 (power .result) (power .ensures)),
+      two-parts (wordsTo (args .table .now) (args .states) (args .certificate) 0 (power .result))
+          (wordsTo (args .table .now) (args .states) (args .certificate) 1 (power .result)) (args .area .now)
+          (one .last .1 .1 .1 .1 .1 .0) (two .last .1 .1 .1 .1 .1 .0) (power .result)
+          (words-length (args .table .now) (args .states) (args .certificate) (start .pre .0) 0 (power .result)) (one .ensures .1) (two .ensures .1)
+          ∙ ap (λ (n : ℕ). wordsTo (args .table .now) (args .states) (args .certificate) 0 n ++ wordsTo (args .table .now) (args .states) (args .certificate) 1 n ++ drop (2 * n) (args .area .now)) (power .ensures),
+    )
 
 pub fill-both-spec : {M : Type 1} → statement M
 fill-both-spec =
