@@ -4,6 +4,8 @@ pub mod CheckLaws
 pub mod FillLaws
 pub mod Fitting
 pub mod FittingLaws
+pub mod Known
+pub mod Only
 pub mod OrdersLaws
 pub mod Recording
 pub mod SetLaws
