@@ -1,1 +1,14 @@
+pub mod AdmittedLaws
+pub mod Check
+pub mod CheckLaws
+pub mod FillLaws
+pub mod Fitting
+pub mod FittingLaws
+pub mod Known
+pub mod Only
+pub mod OrdersLaws
 pub mod Recording
+pub mod SetLaws
+pub mod UnionLaws
+pub mod Words
+pub mod WordsLaws

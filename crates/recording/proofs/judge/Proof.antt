@@ -1,0 +1,89 @@
+use borrow.Author.Needs.{needs}
+use mathlib.Core.Path.{_≡_, sym, ap, _∙_}
+use mathlib.Core.List.{List, map}
+use Prim.Native.Nat.{ℕ}
+use lib.ListN.{length, length-map}
+use Rattle.cell.specs.declared.Formed.{Formed}
+use Rattle.cell.specs.Limits.{edition}
+use Rattle.recording.specs.declared.Filled.{Filled}
+use Rattle.recording.specs.AdmittedLaws.{admitted, fitting}
+use Rattle.recording.specs.Check.{faultOf, judgement, verdictOn}
+use Rattle.recording.specs.CheckLaws.{judged-refused, judged-past, area-refused, area-past}
+use Rattle.recording.proofs.judge.Statement.{statement}
+use Rattle.recording.proofs.judge.Tie as tie
+use Rattle.recording.proofs.judge.Reads as reads
+use Rattle.recording.proofs.judge.Lts as lts
+use Rattle.recording.proofs.fault.Reads as fault-reads
+use Rattle.recording.proofs.fill_both.Reads as fill-both-reads
+use Rattle.recording.proofs.verdict_on.Reads as verdict-on-reads
+
+-- src/lib.rt:90:9
+fault-requires : tie.Need-fault-requires
+fault-requires c κs = search needs
+
+-- src/lib.rt:92:9
+-- where the test holds one of the refusals applies
+refused : (c : tie.Then1)
+    → faultOf (c .before .before .before .before .before .args .table .now) (c .before .before .before .before .before .args .states)
+    (c .before .before .before .before .before .args .operations) (c .before .before .before .before .before .args .certificate)
+    (length (c .before .before .before .before .before .args .area .now)) .code ≡ 0 → ⊥
+refused c none = c .if1 .taken (ap (λ (f : Formed). f .code) (c .before .before .fault .ensures) ∙ none)
+
+returns : tie.Need-returns
+returns c =
+    let args = c .before .before .before .before .before .args in
+    let fault = c .before .before .fault .ensures in (
+      ap (λ (f : Formed). judgement (f .code) (f .place) 0 0) fault
+          ∙ sym (judged-refused (args .table .now) (args .states) (args .operations) (args .certificate) (length (args .area .now)) (refused c)),
+      sym (area-refused (args .table .now) (args .states) (args .operations) (args .certificate) (args .area .now) (refused c)),
+    )
+
+-- src/lib.rt:99:9
+-- past the test no refusal of 2 to 9 or 40 applies
+past : (c : tie.Else1)
+    → faultOf (c .before .before .before .before .before .args .table .now) (c .before .before .before .before .before .args .states)
+    (c .before .before .before .before .before .args .operations) (c .before .before .before .before .before .args .certificate)
+    (length (c .before .before .before .before .before .args .area .now)) .code ≡ 0
+past c = ap (λ (f : Formed). f .code) (sym (c .before .before .fault .ensures)) ∙ c .if1 .left
+
+unmapped : (X Y : Type 0) (f : X → Y) (l : List X) (n : ℕ) → length (map f l) ≡ n → length l ≡ n
+unmapped X Y f l n e = sym (length-map l f) ∙ e
+
+-- the certificate's array has a seat for each loom that the limit allows
+eight : (c : tie.Start) → length (c .args .certificate .seats) ≡ edition .looms
+eight c = let h = c .good .1 .1 .1 .0 .1 in search unmapped
+
+fill-both-requires : tie.Need-fill-both-requires
+fill-both-requires c κs =
+    let args = c .before .before .before .before .before .before .args in
+    let ok = past (c .before) in (
+      fitting (args .table .now) (args .states) (args .operations) (args .certificate) (length (args .area .now)) (admitted (args .table .now) (args .states) (args .operations) (args .certificate) (length (args .area .now)) ok) (eight (c .before .before .before .before .before .before)),
+      admitted (args .table .now) (args .states) (args .operations) (args .certificate) (length (args .area .now)) ok .enough,
+    )
+
+-- src/lib.rt:100:5
+verdict-on-requires : tie.Need-verdict-on-requires
+verdict-on-requires c κs =
+    let args = c .before .before .before .before .before .before .before .before .before .args in
+    admitted (args .table .now) (args .states) (args .operations) (args .certificate) (length (args .area .now)) (past (c .before .before .before .before)) .few
+
+-- src/lib.rt:80:1
+same-length : tie.Need-same-length
+same-length c = search needs
+
+-- src/lib.rt:80:1
+returns-2 : tie.Need-returns-2
+returns-2 c =
+    let args = c .before .before .before .before .before .before .before .before .before .before .args in
+    let ok = past (c .before .before .before .before .before) in
+    let filled = c .before .before .before .fill-both .ensures in (
+      c .verdict-on .ensures
+          ∙ ap (λ (f : Filled). verdictOn (args .certificate) (f .a) (f .b)) (filled .0)
+          ∙ sym (judged-past (args .table .now) (args .states) (args .operations) (args .certificate) (length (args .area .now)) ok),
+      filled .1 ∙ sym (area-past (args .table .now) (args .states) (args .operations) (args .certificate) (args .area .now) ok),
+    )
+
+pub judge-spec : {M : Type 1} → statement M
+judge-spec =
+    tie.close
+    (tie.spec fault-requires returns fill-both-requires verdict-on-requires same-length returns-2)

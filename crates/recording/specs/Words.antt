@@ -1,0 +1,65 @@
+-- The words of the check's area, as the code makes them: document 01, "Cell and certificate". Source document 003's definition is
+-- `Recording`, and `WordsLaws` joins the two.
+-- Over any operations, any list of looms and any number of states.
+-- Assumes nothing.
+use Prim.Native.Nat.{ℕ, zero, suc, _-_, _^_}
+use mathlib.Core.Bool.{Bool, true, false}
+use mathlib.Core.List.{List, [], _∷_, _++_}
+use lib.Bits.{bitOr}
+use lib.Dec.{eqb}
+use lib.ListN.{length, getD}
+use Rattle.sets.specs.Sets.{hasOf}
+use Rattle.recording.specs.declared.Seat.{Seat}
+use Rattle.recording.specs.Recording.{sideAt, operationAt}
+
+-- The first of two sets where the test holds, else the second.
+abbrev pub pickSet : Bool → ℕ → ℕ → ℕ
+pickSet true a b = a
+pickSet false a b = b
+
+-- The set with state q put in, where the test holds.
+abbrev pub withIf : Bool → ℕ → ℕ → ℕ
+withIf true set q = bitOr set (2 ^ q)
+withIf false set q = set
+
+-- The states that those of a set below k move to.
+unfoldable pub advanced : (ℕ → ℕ) → ℕ → ℕ → ℕ
+advanced move set zero = 0
+advanced move set (suc k) = withIf (hasOf set k) (advanced move set k) (move k)
+
+-- All that some sets hold, and what `set` holds.
+unfoldable pub unionOf : ℕ → List ℕ → ℕ
+unionOf set [] = set
+unionOf set (w ∷ ws) = unionOf (bitOr set w) ws
+
+module _ (next : ℕ → ℕ → ℕ) (looms : List Seat) (states start X : ℕ) where
+  -- The states that loom j leads to as the first of an order: one, for a loom of X.
+  unfoldable pub firstBy : ℕ → ℕ
+  firstBy j = pickSet (eqb (sideAt looms j) X) (2 ^ next (operationAt looms j) start) 0
+
+  -- What loom j adds to word m as the last of an order of the looms in m: nothing where m lacks it, the first word where m is
+  -- that loom alone, else what the word without it moves to. `earlier` holds the words below m.
+  unfoldable pub lastBy : List ℕ → ℕ → ℕ → ℕ
+  lastBy earlier m j =
+      pickSet (hasOf m j)
+      (pickSet (eqb m (2 ^ j)) (firstBy j) (advanced (next (operationAt looms j)) (getD earlier (m - 2 ^ j) 0) states))
+      0
+
+  -- Word m, as far as the looms below k add to it.
+  unfoldable pub wordFrom : List ℕ → ℕ → ℕ → ℕ
+  wordFrom earlier m zero = 0
+  wordFrom earlier m (suc k) = bitOr (wordFrom earlier m k) (lastBy earlier m k)
+
+  -- The words below m, and word m after them.
+  abbrev pub oneMore : List ℕ → ℕ → List ℕ
+  oneMore earlier m = earlier ++ (wordFrom earlier m (length looms) ∷ [])
+
+  -- "Word m [...] holds the states reached by applying exactly the looms whose bits are in m, each once, [a loom of X] first": the
+  -- words below m.
+  unfoldable pub filled : ℕ → List ℕ
+  filled zero = []
+  filled (suc m) = oneMore (filled m) m
+
+  -- The set of X: the union of its words.
+  unfoldable pub setOf : ℕ
+  setOf = unionOf 0 (filled (2 ^ length looms))
