@@ -25,6 +25,9 @@ side-only-same self side r s p q = p ∙ sym q
 pub shared-only-register : (self : Shared) (side : Side) (r s : ℕ) → r ≡ register self side → s ≡ register self side → r ≡ s
 shared-only-register self side r s p q = p ∙ sym q
 
+pub shared-only-across : (self : Shared) (side : Side) (r s : ℕ) → r ≡ register self (other side) → s ≡ register self (other side) → r ≡ s
+shared-only-across self side r s p q = p ∙ sym q
+
 pub shared-only-with-register : (self : Shared) (side : Side) (number : ℕ) (r s : Shared) →
     r ≡ withRegister self side number → s ≡ withRegister self side number → r ≡ s
 shared-only-with-register self side number r s p q = p ∙ sym q

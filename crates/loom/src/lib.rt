@@ -101,6 +101,16 @@ impl Shared {
         }
     }
 
+    // The number in the register of the side across the aisle.
+    pub fn across(self, side: Side) -> u32
+        ensures { λ r. ⌜ r ≡ register self (other side) ⌝ }
+    {
+        match side {
+            Side::A => self.b,
+            Side::B => self.a,
+        }
+    }
+
     // The memory with a number in the register of a side.
     pub fn with_register(self, side: Side, number: u32) -> Shared
         ensures { λ r. ⌜ r ≡ withRegister self side number ⌝ }
@@ -297,7 +307,7 @@ pub fn turn(lead: Lead, number: u32, next: u8, shared: Shared, loom: Loom) -> Tu
             said: Said::Nothing,
         },
         Place::Looking => Turned {
-            loom: loom.after_register(shared.register(side.other())),
+            loom: loom.after_register(shared.across(side)),
             shared,
             said: Said::Nothing,
         },

@@ -6,7 +6,6 @@ use Rattle.loom.specs.declared.Place.the-variants.{Begin, Posted, Lookin
 use Rattle.loom.specs.declared.Shared.{Shared}
 use Rattle.loom.specs.declared.Said.{Said}
 use Rattle.loom.specs.declared.Said.the-variants.{Nothing, Application, Answer}
-use Rattle.loom.specs.Sides.{register}
 use Rattle.loom.specs.Turn.{Turn, afterLooking, turnOf}
 use Rattle.loom.specs.Looms.{rulesOf, movedTo}
 use Rattle.loom.specs.LoomsLaws.{turned-at}
@@ -35,11 +34,8 @@ after-cell-requires c κs = search needs
 enum-told-3 : tie.Need-enum-told-3
 enum-told-3 c = search needs
 
-other-requires : tie.Need-other-requires
-other-requires c κs = search needs
-
-register-requires : tie.Need-register-requires
-register-requires c κs = search needs
+across-requires : tie.Need-across-requires
+across-requires c κs = search needs
 
 after-register-requires : tie.Need-after-register-requires
 after-register-requires c κs = search needs
@@ -65,8 +61,8 @@ enum-known-place c = search needs
 answered-requires : tie.Need-answered-requires
 answered-requires c κs = search needs
 
-register-requires-2 : tie.Need-register-requires-2
-register-requires-2 c κs = search needs
+register-requires : tie.Need-register-requires
+register-requires c κs = search needs
 
 enum-known-place-2 : tie.Need-enum-known-place-2
 enum-known-place-2 c = search needs
@@ -89,8 +85,9 @@ returns-2 c =
 returns-3 : tie.Need-returns-3
 unfolding turnOf
 returns-3 c =
-    let a = c .before .before .before .before .before .args in
-    turned-at (rulesOf (a .lead)) (a .number) (λ _. a .next) (a .shared) (a .loom) Looking _ _ _ _ (c .before .before .before .enum-told3 .given .1) refl (c .after-register .ensures ∙ ap (λ v. movedTo (a .loom) (afterLooking (a .loom .side) v)) (c .before .register .ensures ∙ ap (register (a .shared)) (c .before .before .other .ensures)))
+    let a = c .before .before .before .before .args in
+    turned-at (rulesOf (a .lead)) (a .number) (λ _. a .next) (a .shared) (a .loom) Looking _ _ _ _ (c .before .before .enum-told3 .given .1) refl
+    (c .after-register .ensures ∙ ap (λ v. movedTo (a .loom) (afterLooking (a .loom .side) v)) (c .before .across .ensures))
 
 returns-4 : tie.Need-returns-4
 unfolding turnOf
@@ -109,7 +106,7 @@ unfolding turnOf
 returns-6 c =
     let a = c .before .before .before .before .before .args in
     let x = c .before .before .before .place .given .0 .0 in
-    turned-at (rulesOf (a .lead)) (a .number) (λ _. a .next) (a .shared) (a .loom) (Bound x) _ _ _ _ (c .before .before .before .place .given .1) (ap (λ v. left (Answered x) (a .shared) (Answer x v)) (sym (c .register2 .ensures))) (c .before .answered .ensures)
+    turned-at (rulesOf (a .lead)) (a .number) (λ _. a .next) (a .shared) (a .loom) (Bound x) _ _ _ _ (c .before .before .before .place .given .1) (ap (λ v. left (Answered x) (a .shared) (Answer x v)) (sym (c .register .ensures))) (c .before .answered .ensures)
 
 returns-7 : tie.Need-returns-7
 unfolding turnOf
@@ -127,8 +124,7 @@ turn-spec =
     enum-told-2
     after-cell-requires
     enum-told-3
-    other-requires
-    register-requires
+    across-requires
     after-register-requires
     enum-told-4
     applied-requires
@@ -137,7 +133,7 @@ turn-spec =
     bound-requires
     enum-known-place
     answered-requires
-    register-requires-2
+    register-requires
     enum-known-place-2
     answered-requires-2
     returns

@@ -1,8 +1,5 @@
 -- `loom::Loom::bound` meets its contract: the loom moves to the side that the cell decides.
 -- Assumes nothing.
-use mathlib.Core.Path.{ap, _∙_}
-use Rattle.loom.specs.Looms.{movedTo}
-use Rattle.loom.specs.declared.Place.the-variants.{Bound}
 use borrow.Author.Needs.{needs}
 use Rattle.loom.proofs.Loom.bound.Statement.{statement}
 use Rattle.loom.proofs.Loom.bound.Tie as tie
@@ -14,8 +11,7 @@ moved-requires : tie.Need-moved-requires
 moved-requires c κs = search needs
 
 returns : tie.Need-returns
-returns c =
-    c .moved .ensures ∙ ap (λ x. movedTo (c .before .before .args .self) (Bound x)) (c .before .decided .ensures)
+returns c = cc
 
 pub bound-spec : {M : Type 1} → statement M
 bound-spec = tie.close (tie.spec decided-requires moved-requires returns)
