@@ -23,10 +23,14 @@ u8 linuktabay_catalogue(u64 n, u8 *room, u64 length);
 u8 linuktabay_form_code(const u8 *table, u64 length, u64 states, u64 operations);
 u64 linuktabay_form_place(const u8 *table, u64 length, u64 states, u64 operations);
 u64 linuktabay_next(const u8 *table, u64 length, u64 states, u64 operation, u64 state);
+void linuktabay_check(const u8 *table, u64 length, u64 states, u64 operations, u64 start, u64 looms, const u64 seats[16], u64 *area, u64 words,
+                      u64 out[4]);
+u8 linuktabay_restart(u64 loom, u64 group[41]);
 
 enum { ROOM = 1 << 20 };
 
 static u8 call[ROOM], answer[ROOM];
+static u64 room[ROOM / 8];
 static u32 called, at, answered;
 
 /* A call that is cut short, or of no known function, is a fault of the test: it ends the run. */
@@ -65,6 +69,24 @@ static struct bytes bytes(void) {
     return (struct bytes){(u8 *)taken(n), n};
 }
 
+/* So many numbers, in order. */
+static void numbers(u64 *to, u32 n) {
+    for (u32 i = 0; i < n; i++) to[i] = number();
+}
+
+struct words {
+    u64 *first;
+    u64 length;
+};
+
+/* A slice of words, copied to where words may lie. */
+static struct words words(void) {
+    u32 n = count();
+    if (n > ROOM / 8) STOP("driver: a slice is too long");
+    memcpy(room, taken(n * 8), n * 8);
+    return (struct words){room, n};
+}
+
 static void put(const void *from, u32 length) {
     if (ROOM - answered < length) STOP("driver: an answer is too long");
     memcpy(answer + answered, from, length);
@@ -77,6 +99,16 @@ static void say_bytes(struct bytes b) {
     u32 n = b.length;
     put(&n, 4);
     put(b.first, n);
+}
+
+static void say_numbers(const u64 *from, u32 n) {
+    for (u32 i = 0; i < n; i++) say(from[i]);
+}
+
+static void say_words(struct words w) {
+    u32 n = w.length;
+    put(&n, 4);
+    put(w.first, n * 8);
 }
 
 static void of_sets(u8 function) {
@@ -112,6 +144,38 @@ static void form(void) {
     say(linuktabay_form_place(table.first, table.length, states, operations));
 }
 
+/* What a certificate is checked over, and the certificate itself. */
+struct given {
+    struct bytes table;
+    u64 states, operations, start, looms, seats[16];
+};
+
+static struct given given(void) {
+    struct given g = {.table = bytes()};
+    g.states = number();
+    g.operations = number();
+    g.start = number();
+    g.looms = number();
+    numbers(g.seats, 16);
+    return g;
+}
+
+static void check(void) {
+    struct given g = given();
+    struct words area = words();
+    u64 out[4] = {0};
+    linuktabay_check(g.table.first, g.table.length, g.states, g.operations, g.start, g.looms, g.seats, area.first, area.length, out);
+    say_numbers(out, 4);
+    say_words(area);
+}
+
+static void restart(void) {
+    u64 loom = number(), group[41];
+    numbers(group, 41);
+    say(linuktabay_restart(loom, group));
+    say_numbers(group, 41);
+}
+
 static void answer_call(void) {
     u8 function = *taken(1);
     switch (function) {
@@ -120,6 +184,8 @@ static void answer_call(void) {
     case 10: return catalogue();
     case 11: return next();
     case 12: return form();
+    case 20: return check();
+    case 32: return restart();
     default: STOP("driver: no such function");
     }
 }

@@ -1,3 +1,4 @@
 pub mod Numbers
 pub mod Groups
+pub mod Certificates
 pub mod Only
