@@ -10,9 +10,11 @@ use Rattle.loom.specs.declared.Shared.{Shared}
 use Rattle.group.specs.declared.Sets.{Sets}
 use Rattle.group.specs.declared.Numbers.{Numbers}
 use Rattle.loom.specs.Sides.{sideNumber, sideFrom, placeNumber}
-use Rattle.loom.specs.Numbers.{placeFrom}
+use Rattle.loom.specs.declared.Said.{Said}
+use Rattle.loom.specs.Numbers.{placeFrom, saidNumber, saidApplied, saidPiece}
 use Rattle.group.specs.declared.Group.{Group}
 use Rattle.group.specs.declared.Restarted.{Restarted}
+use Rattle.group.specs.declared.Stepped.{Stepped}
 use Rattle.group.specs.Group.{loomAt}
 
 -- A number of C's in a byte, and in a half word.
@@ -84,3 +86,13 @@ withGroup ns g =
 pub record Restarts (answer : Restarted) (before : List ℕ) (code : ℕ) (after : List ℕ) : Type 0 where
   pub its-code : code ≡ answer .code
   pub its-group : after ≡ withGroup before (answer .group)
+
+-- The numbers with what a step says written: the mark of its answer, whether it applied, the piece number and the step count.
+unfoldable pub withSaid : List ℕ → Said → ℕ → List ℕ
+withSaid ns said steps = set (set (set (set ns 0 (saidNumber said)) 1 (saidApplied said)) 2 (saidPiece said)) 3 steps
+
+-- What a step leaves in C's numbers: its code, the group, and what it says.
+pub record Steps (answer : Stepped) (group out : List ℕ) (code : ℕ) (group′ out′ : List ℕ) : Type 0 where
+  pub its-code : code ≡ answer .code
+  pub its-group : group′ ≡ withGroup group (answer .group)
+  pub its-word : out′ ≡ withSaid out (answer .said) (answer .steps)

@@ -3,12 +3,13 @@ use group::Group;
 use group::Numbers;
 use group::Sets;
 use loom::Loom;
+use loom::Said;
 use loom::Shared;
 ghost use mathlib.Core.Path.{_≡_};
 ghost use mathlib.Core.List.{[], _∷_};
-ghost use Rattle.group.specs.Step.{restartOf, restartAllOf};
+ghost use Rattle.group.specs.Step.{stepOf, restartOf, restartAllOf};
 ghost use Prim.Native.Nat.{_≤_};
-ghost use Rattle.boundary.specs.Groups.{inByte, inHalf, loomFrom, slotFrom, sharedFrom, piecesFrom, setsFrom, loomsFrom, groupFrom, withFour, withLoom, withBoard, withGroup, Restarts};
+ghost use Rattle.boundary.specs.Groups.{inByte, inHalf, loomFrom, slotFrom, sharedFrom, piecesFrom, setsFrom, loomsFrom, groupFrom, withFour, withLoom, withBoard, withGroup, withSaid, Restarts, Steps};
 
 // A number of C's in a byte.
 fn in_byte(n: usize) -> u8
@@ -191,6 +192,52 @@ pub extern "C" fn linuktabay_restart(loom: usize, group: &mut [usize; 41]) -> u8
 {
     let n = *group;
     let restarted = group::restart(group_from(n), loom);
+    let after = restarted.group;
+    *group = with_group(n, after);
+    restarted.code
+}
+
+// The numbers with what a step says written: the mark of its answer, whether it applied, the piece number and the step count.
+fn with_said(n: [usize; 4], said: Said, steps: u8) -> [usize; 4]
+    ensures { λ r. ⌜ r ≡ withSaid n said steps ⌝ }
+{
+    let mut out = n;
+    out[0] = wide(loom::said_number(said));
+    out[1] = wide(loom::said_applied(said));
+    out[2] = loom::said_piece(said) as usize;
+    out[3] = wide(steps);
+    out
+}
+
+// `group::step`: the code, the group's numbers as it leaves them, and what it says.
+#[no_mangle]
+pub extern "C" fn linuktabay_step(
+    table: &[u8],
+    states: usize,
+    operations: usize,
+    loom: usize,
+    group: &mut [usize; 41],
+    out: &mut [usize; 4],
+) -> u8
+    ensures { λ r. ⌜ Steps (stepOf (now (table .entry)) states operations (groupFrom (now (group .entry))) loom) (now (group .entry)) (now (out .entry)) r (now (group .exit)) (now (out .exit)) ⌝ }
+{
+    let n = *group;
+    let old = *out;
+    let stepped = group::step(group_from(n), table, states, operations, loom);
+    let after = stepped.group;
+    let said = stepped.said;
+    *group = with_group(n, after);
+    *out = with_said(old, said, stepped.steps);
+    stepped.code
+}
+
+// `group::restart_all`: the code, and the group's numbers as it leaves them.
+#[no_mangle]
+pub extern "C" fn linuktabay_restart_all(group: &mut [usize; 41]) -> u8
+    ensures { λ r. ⌜ Restarts (restartAllOf (groupFrom (now (group .entry)))) (now (group .entry)) r (now (group .exit)) ⌝ }
+{
+    let n = *group;
+    let restarted = group::restart_all(group_from(n));
     let after = restarted.group;
     *group = with_group(n, after);
     restarted.code

@@ -12,14 +12,38 @@ fn seats_from(n: [usize; 16]) -> [Seat; 8]
     ensures { λ r. ⌜ r ≡ seatsFrom n ⌝ }
 {
     [
-        Seat { side: n[0], operation: n[1] },
-        Seat { side: n[2], operation: n[3] },
-        Seat { side: n[4], operation: n[5] },
-        Seat { side: n[6], operation: n[7] },
-        Seat { side: n[8], operation: n[9] },
-        Seat { side: n[10], operation: n[11] },
-        Seat { side: n[12], operation: n[13] },
-        Seat { side: n[14], operation: n[15] },
+        Seat {
+            side: n[0],
+            operation: n[1],
+        },
+        Seat {
+            side: n[2],
+            operation: n[3],
+        },
+        Seat {
+            side: n[4],
+            operation: n[5],
+        },
+        Seat {
+            side: n[6],
+            operation: n[7],
+        },
+        Seat {
+            side: n[8],
+            operation: n[9],
+        },
+        Seat {
+            side: n[10],
+            operation: n[11],
+        },
+        Seat {
+            side: n[12],
+            operation: n[13],
+        },
+        Seat {
+            side: n[14],
+            operation: n[15],
+        },
     ]
 }
 
@@ -59,10 +83,16 @@ pub extern "C" fn linuktabay_check(
     out: &mut [usize; 4],
 )
     ensures { λ _. ⌜ (now (out .exit) ≡ withChecked (now (out .entry)) (checkOf (now (table .entry)) states operations (certificateFrom start count (now (seats .entry))) (length (now (area .entry)))))
-    × (now (area .exit) ≡ areaOf (now (table .entry)) states operations (certificateFrom start count (now (seats .entry))) (now (area .entry))) ⌝ }
+        × (now (area .exit) ≡ areaOf (now (table .entry)) states operations (certificateFrom start count (now (seats .entry))) (now (area .entry))) ⌝ }
 {
     let n = *seats;
     let old = *out;
-    let checked = recording::check(table, states, operations, certificate_from(start, count, n), area);
+    let checked = recording::check(
+        table,
+        states,
+        operations,
+        certificate_from(start, count, n),
+        area,
+    );
     *out = with_checked(old, checked);
 }

@@ -27,11 +27,11 @@ returns c =
     let made = called .before .before .certificate-from .ensures in
     let args = called .before .before .before .before .before .before .before .args in (
       c .with-checked .ensures
-      ∙ ap (withChecked (args .out .now))
-      (called .check .ensures .0
-      ∙ ap (λ (x : Certificate). checkOf (args .table .now) (args .states) (args .operations) x (length (args .area .now))) made),
+          ∙ ap (withChecked (args .out .now))
+          (called .check .ensures .0
+          ∙ ap (λ (x : Certificate). checkOf (args .table .now) (args .states) (args .operations) x (length (args .area .now))) made),
       called .check .ensures .1
-      ∙ ap (λ (x : Certificate). areaOf (args .table .now) (args .states) (args .operations) x (args .area .now)) made,
+          ∙ ap (λ (x : Certificate). areaOf (args .table .now) (args .states) (args .operations) x (args .area .now)) made,
     )
 
 pub linuktabay-check-spec : {M : Type 1} → statement M
