@@ -9,7 +9,7 @@ use native.Mathlib.Nat.{le-of-suc-le-suc, not-suc-le-zero}
 use native.Mathlib.Omega.{arith}
 use borrow.Author.Tests.{leb-false, ltb-false}
 use lib.Dec.{leb, ltb}
-use lib.ListN.{length, getD}
+use lib.ListN.{length, length-take}
 use Rattle.cell.specs.declared.Formed.{Formed}
 use Rattle.cell.specs.Limits.{edition}
 use Rattle.cell.specs.Table.{entryOf, either, pick, formed, formOf}
@@ -17,9 +17,9 @@ use Rattle.cell.specs.TableLaws.{HasForm, form-says, good-moves}
 use Rattle.recording.specs.declared.Certificate.{Certificate}
 use Rattle.recording.specs.declared.Seat.{Seat}
 use Rattle.recording.specs.Check.{loomsOf, misfitOf, firstMisfit, roomFor, loomsFault, faultOf}
-use Rattle.recording.specs.CheckLaws.{as-many, fault-few, fault-many, fault-misfit, fault-no-A, fault-no-B, fault-room, fault-form, fault-start, fault-looms}
+use Rattle.recording.specs.CheckLaws.{fault-few, fault-many, fault-misfit, fault-no-A, fault-no-B, fault-room, fault-form, fault-start, fault-looms}
 use Rattle.recording.specs.Fitting.{Steps, Fitting}
-use Rattle.recording.specs.Recording.{emptySeat, sideAt, operationAt, sideCount}
+use Rattle.recording.specs.Recording.{sideAt, operationAt, sideCount}
 use Rattle.recording.specs.WordsLaws.{Closed}
 
 -- Where the first misfit is past the looms, every loom has side 0 or 1 and a fitted operation.
@@ -38,6 +38,16 @@ all-fitted operations (l ∷ ls) none k within =
     go rest false e true f none k within = absurd (not-suc-le-zero none)
     go rest false e false f none zero within = (ltb-false 1 (l .side) e, leb-false operations (l .operation) f)
     go rest false e false f none (suc k) within = rest (le-of-suc-le-suc none) k (le-of-suc-le-suc within)
+
+-- The first misfit is a loom, or their number.
+misfit-at-most : (operations : ℕ) (looms : List Seat) → firstMisfit operations looms ≤ length looms
+unfolding firstMisfit
+misfit-at-most operations [] = omega arith
+misfit-at-most operations (l ∷ ls) = go (misfitOf operations l) (misfit-at-most operations ls)
+  where
+    go : (b : Bool) → firstMisfit operations ls ≤ length ls → pick b 0 (suc (firstMisfit operations ls)) ≤ suc (length ls)
+    go true rest = omega arith
+    go false rest = omega arith
 
 -- What is known past 2 to 9 and 40.
 pub record Admitted (table : List ℕ) (states operations : ℕ) (c : Certificate) (room : ℕ) : Type 0 where
@@ -108,10 +118,10 @@ module _ (table : List ℕ) (states operations : ℕ) (c : Certificate) (room : 
             | no h ↦ omega arith
           ]
 
-  -- The looms' steps, as the code and the theorems need them. The seats are as many as the limit on looms.
-  module _ (ok : Admitted table states operations c room) (seats : length (c .seats) ≡ edition .looms) where
+  -- The looms are as many as the count says, and their steps are as the code and the theorems need them.
+  module _ (ok : Admitted table states operations c room) where
     counted : length (loomsOf c) ≡ c .count
-    counted = as-many (c .seats) (c .count) (omega (arith, ok .few))
+    counted = omega (arith, ok .fitted, misfit-at-most operations (loomsOf c), length-take (c .count) (c .seats))
 
     operation-fits : (k : ℕ) → k < c .count → operationAt (loomsOf c) k < operations
     operation-fits k within =

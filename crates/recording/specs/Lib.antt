@@ -1,3 +1,4 @@
+pub mod Accepted
 pub mod AdmittedLaws
 pub mod Check
 pub mod CheckLaws
@@ -10,5 +11,6 @@ pub mod OrdersLaws
 pub mod Recording
 pub mod SetLaws
 pub mod UnionLaws
+pub mod VerdictLaws
 pub mod Words
 pub mod WordsLaws

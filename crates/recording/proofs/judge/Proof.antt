@@ -1,10 +1,7 @@
 use borrow.Author.Needs.{needs}
 use mathlib.Core.Path.{_≡_, sym, ap, _∙_}
-use mathlib.Core.List.{List, map}
-use Prim.Native.Nat.{ℕ}
-use lib.ListN.{length, length-map}
+use lib.ListN.{length}
 use Rattle.cell.specs.declared.Formed.{Formed}
-use Rattle.cell.specs.Limits.{edition}
 use Rattle.recording.specs.declared.Filled.{Filled}
 use Rattle.recording.specs.AdmittedLaws.{admitted, fitting}
 use Rattle.recording.specs.Check.{faultOf, judgement, verdictOn}
@@ -46,18 +43,11 @@ past : (c : tie.Else1)
     (length (c .before .before .before .before .before .args .area .now)) .code ≡ 0
 past c = ap (λ (f : Formed). f .code) (sym (c .before .before .fault .ensures)) ∙ c .if1 .left
 
-unmapped : (X Y : Type 0) (f : X → Y) (l : List X) (n : ℕ) → length (map f l) ≡ n → length l ≡ n
-unmapped X Y f l n e = sym (length-map l f) ∙ e
-
--- the certificate's array has a seat for each loom that the limit allows
-eight : (c : tie.Start) → length (c .args .certificate .seats) ≡ edition .looms
-eight c = let h = c .good .1 .1 .1 .0 .1 in search unmapped
-
 fill-both-requires : tie.Need-fill-both-requires
 fill-both-requires c κs =
     let args = c .before .before .before .before .before .before .args in
     let ok = past (c .before) in (
-      fitting (args .table .now) (args .states) (args .operations) (args .certificate) (length (args .area .now)) (admitted (args .table .now) (args .states) (args .operations) (args .certificate) (length (args .area .now)) ok) (eight (c .before .before .before .before .before .before)),
+      fitting (args .table .now) (args .states) (args .operations) (args .certificate) (length (args .area .now)) (admitted (args .table .now) (args .states) (args .operations) (args .certificate) (length (args .area .now)) ok),
       admitted (args .table .now) (args .states) (args .operations) (args .certificate) (length (args .area .now)) ok .enough,
     )
 
