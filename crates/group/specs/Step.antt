@@ -18,6 +18,8 @@ use Rattle.loom.specs.declared.Turned.{Turned}
 use Rattle.loom.specs.Turn.{Rules}
 use Rattle.loom.specs.Looms.{turnedOf}
 use Rattle.group.specs.declared.Group.{Group}
+use Rattle.group.specs.declared.Permit.{Permit}
+use Rattle.group.specs.declared.Permit.the-variants.{Granted, Denied}
 use Rattle.group.specs.declared.Outcome.{Outcome}
 use Rattle.group.specs.declared.Stepped.{Stepped}
 use Rattle.group.specs.declared.Restarted.{Restarted}
@@ -60,6 +62,12 @@ hasAnswered Ready = false
 hasAnswered Applied = false
 hasAnswered (Bound s) = false
 hasAnswered (Answered s) = true
+
+-- The order of the two refusals: 32, then 31. Granted is the state that the operation leads to.
+abbrev pub permitOf : Moved → Bool → Permit
+permitOf Refused answered = Denied 32
+permitOf (To s) true = Denied 31
+permitOf (To s) false = Granted s
 
 -- "A refused step [...] returns what it was given": memory and loom.
 abbrev pub unmoved : ℕ → Shared → Loom → Outcome

@@ -22,11 +22,12 @@ use Rattle.loom.specs.Turn.{Rules}
 use Rattle.loom.specs.Looms.{rulesOf, turnedOf}
 use Rattle.loom.specs.LoomsLaws.{turned-of-next}
 use Rattle.group.specs.declared.Group.{Group}
+use Rattle.group.specs.declared.Permit.the-variants.{Granted, Denied}
 use Rattle.group.specs.declared.Outcome.{Outcome}
 use Rattle.group.specs.declared.Stepped.{Stepped}
 use Rattle.group.specs.declared.Restarted.{Restarted}
 use Rattle.group.specs.Group.{loomAt, numberOf, leadOf, groupRules, withLoom, withShared, noLoom, restartedAt, restartedBelow}
-use Rattle.group.specs.Step.{isUnfit, fittedOf, hasAnswered, unmoved, taken, stepOnOf, refused, settled, ownStep, stepOf, restarted, restartOf, restartAllOf}
+use Rattle.group.specs.Step.{pickOutcome, isUnfit, fittedOf, hasAnswered, permitOf, unmoved, taken, stepOnOf, refused, settled, ownStep, stepOf, restarted, restartOf, restartAllOf}
 
 -- Whether group and table fit, one law for each way that it ends.
 module _ (table : List ℕ) (states operations o q : ℕ) where
@@ -115,39 +116,40 @@ module _ (table : List ℕ) (states operations o q : ℕ) where
                           e,
                         )
 
--- A lookup that is refused is one of an unfit table.
-refused-is-unfit : (t : Bool) (e : ℕ) → Refused ≡ pickMoved t Refused (To e) → t ≡ true
-refused-is-unfit true e h = refl
-refused-is-unfit false e h = let z : false ≡ true = cc in z
+-- A step that is denied: t says that group and table don't fit, u that the loom has answered.
+denied-first : (t u : Bool) (e code : ℕ) (m : Shared) (l : Loom) (x : Outcome) →
+    Denied code ≡ permitOf (pickMoved t Refused (To e)) u →
+    unmoved code m l ≡ pickOutcome t (unmoved 32 m l) (pickOutcome u (unmoved 31 m l) x)
+denied-first true u e code m l x h = let it : code ≡ 32 = cc in ap (λ n. unmoved n m l) it
+denied-first false true e code m l x h = let it : code ≡ 31 = cc in ap (λ n. unmoved n m l) it
+denied-first false false e code m l x h = let never : _≡_ {A = ℕ} 0 1 = cc in absurd (omega arith)
 
--- One that is answered is of a table that fits, and the answer is the entry.
-answered-is-fit : (t : Bool) (e s : ℕ) → To s ≡ pickMoved t Refused (To e) → (t ≡ false) × (s ≡ e)
-answered-is-fit true e s h = let z : true ≡ false = cc in let y : s ≡ e = cc in (z, y)
-answered-is-fit false e s h = let y : s ≡ e = cc in (refl, y)
+-- A step that is granted, at the state s.
+granted-last : (t u : Bool) (e s : ℕ) (x y : Outcome) (f : ℕ → Outcome) →
+    Granted s ≡ permitOf (pickMoved t Refused (To e)) u → f s ≡ pickOutcome t x (pickOutcome u y (f e))
+granted-last true u e s x y f h = let never : _≡_ {A = ℕ} 0 1 = cc in absurd (omega arith)
+granted-last false true e s x y f h = let never : _≡_ {A = ℕ} 0 1 = cc in absurd (omega arith)
+granted-last false false e s x y f h = let it : s ≡ e = cc in ap f it
 
 -- A step on the shared memory, one law for each way that it ends.
 module _ (R : Rules) (v : ℕ) (table : List ℕ) (states operations : ℕ) (m : Shared) (l : Loom) where
-  pub step-unfit : Refused ≡ fittedOf table states operations (l .operation) (m .cell)
-      → unmoved 32 m l ≡ stepOnOf R v table states operations m l
+  pub step-denied : (code : ℕ) → Denied code ≡ permitOf (fittedOf table states operations (l .operation) (m .cell)) (hasAnswered (l .place))
+      → unmoved code m l ≡ stepOnOf R v table states operations m l
   unfolding stepOnOf
-  step-unfit h =
-      simp (refused-is-unfit (isUnfit table states operations (l .operation) (m .cell)) (entryOf table states (l .operation) (m .cell)) h)
+  step-denied code h =
+      denied-first (isUnfit table states operations (l .operation) (m .cell)) (hasAnswered (l .place))
+      (entryOf table states (l .operation) (m .cell)) code m l (taken (turnedOf R v (entryOf table states (l .operation)) m l)) h
 
-  module _ (s : ℕ) (fits : To s ≡ fittedOf table states operations (l .operation) (m .cell)) where
-    fit : (isUnfit table states operations (l .operation) (m .cell) ≡ false) × (s ≡ entryOf table states (l .operation) (m .cell))
-    fit =
-        answered-is-fit (isUnfit table states operations (l .operation) (m .cell)) (entryOf table states (l .operation) (m .cell)) s fits
-
-    pub step-answered : hasAnswered (l .place) ≡ true → unmoved 31 m l ≡ stepOnOf R v table states operations m l
-    unfolding stepOnOf
-    step-answered h = simp (fit .0, h)
-
-    pub step-taken : hasAnswered (l .place) ≡ false → taken (turnedOf R v (λ _. s) m l) ≡ stepOnOf R v table states operations m l
-    unfolding stepOnOf
-    step-taken h =
-        ap (λ n. taken (turnedOf R v (λ _. n) m l)) (fit .1)
-        ∙ (ap taken (sym (turned-of-next R v (entryOf table states (l .operation)) m l))
-        ∙ simp (fit .0, h))
+  pub step-granted : (s : ℕ) → Granted s ≡ permitOf (fittedOf table states operations (l .operation) (m .cell)) (hasAnswered (l .place))
+      → taken (turnedOf R v (λ _. s) m l) ≡ stepOnOf R v table states operations m l
+  unfolding stepOnOf
+  step-granted s h =
+      granted-last (isUnfit table states operations (l .operation) (m .cell)) (hasAnswered (l .place))
+      (entryOf table states (l .operation) (m .cell)) s (unmoved 32 m l) (unmoved 31 m l) (λ n. taken (turnedOf R v (λ _. n) m l)) h
+      ∙ ap
+      (λ x. pickOutcome (isUnfit table states operations (l .operation) (m .cell)) (unmoved 32 m l)
+      (pickOutcome (hasAnswered (l .place)) (unmoved 31 m l) (taken x)))
+      (sym (turned-of-next R v (entryOf table states (l .operation)) m l))
 
 -- A group's step, restart of one and restart of all, one law for each way that they end.
 module _ (g : Group) (k : ℕ) where

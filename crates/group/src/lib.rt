@@ -8,7 +8,7 @@ ghost use Rattle.cell.specs.Table.{pick};
 ghost use Rattle.loom.specs.Sides.{sameSide};
 ghost use Rattle.loom.specs.Looms.{rulesOf};
 ghost use Rattle.group.specs.Group.{setOf, numberOf, countOf, yieldingOf, leadOf, withLoom, withShared, noLoom, restartedAt, restartedBelow};
-ghost use Rattle.group.specs.Step.{fittedOf, hasAnswered, unmoved, taken, stepOnOf, refused, settled, stepOf, restartOf, restartAllOf};
+ghost use Rattle.group.specs.Step.{fittedOf, hasAnswered, permitOf, unmoved, taken, stepOnOf, refused, settled, stepOf, restartOf, restartAllOf};
 use loom::Lead;
 use loom::Loom;
 use loom::Place;
@@ -38,6 +38,12 @@ pub struct Group {
     pub numbers: Numbers,
     pub shared: Shared,
     pub looms: [Loom; 8],
+}
+
+// Whether a step may be taken: the state that its operation leads to, or the code that refuses it.
+enum Permit {
+    Granted(u8),
+    Denied(u8),
 }
 
 // What a step on lent memory comes to: the code, what it says, the memory and the loom.
@@ -155,18 +161,21 @@ fn fitted(
     cell::next(table, states, operation, state)
 }
 
-// Whether a place is that of a loom that has answered.
-fn has_answered(place: Place) -> bool
-    ensures { λ r. ⌜ r ≡ hasAnswered place ⌝ }
+// Whether a step may be taken: the state that its operation leads to, or the code that refuses it. 32 comes before 31.
+fn permitted(next: cell::Moved, place: Place) -> Permit
+    ensures { λ r. ⌜ r ≡ permitOf next (hasAnswered place) ⌝ }
 {
-    match place {
-        Place::Begin => false,
-        Place::Posted => false,
-        Place::Looking => false,
-        Place::Ready => false,
-        Place::Applied => false,
-        Place::Bound(_) => false,
-        Place::Answered(_) => true,
+    match next {
+        cell::Moved::Refused => Permit::Denied(32),
+        cell::Moved::To(state) => match place {
+            Place::Begin => Permit::Granted(state),
+            Place::Posted => Permit::Granted(state),
+            Place::Looking => Permit::Granted(state),
+            Place::Ready => Permit::Granted(state),
+            Place::Applied => Permit::Granted(state),
+            Place::Bound(_) => Permit::Granted(state),
+            Place::Answered(_) => Permit::Denied(31),
+        },
     }
 }
 
@@ -187,13 +196,13 @@ fn taken(turned: Turned) -> Outcome
     ensures { λ r. ⌜ r ≡ taken turned ⌝ }
 {
     let said = turned.said;
-    let shared = turned.shared;
-    let loom = turned.loom;
+    let left = turned.shared;
+    let moved = turned.loom;
     Outcome {
         code: 0,
         said,
-        shared,
-        loom,
+        shared: left,
+        loom: moved,
     }
 }
 
@@ -218,15 +227,9 @@ pub fn step_on(
         loom.operation as usize,
         shared.cell as usize,
     );
-    match next {
-        cell::Moved::Refused => unmoved(32, shared, loom),
-        cell::Moved::To(state) => {
-            if has_answered(place) {
-                unmoved(31, shared, loom)
-            } else {
-                taken(loom::turn(lead, number, state, shared, loom))
-            }
-        }
+    match permitted(next, place) {
+        Permit::Denied(code) => unmoved(code, shared, loom),
+        Permit::Granted(state) => taken(loom::turn(lead, number, state, shared, loom)),
     }
 }
 
@@ -310,12 +313,12 @@ fn settled(group: Group, at: usize, outcome: Outcome) -> Stepped
     let said = outcome.said;
     let shared = outcome.shared;
     let loom = outcome.loom;
-    let group = group.with_shared(shared).with_loom(at, loom);
+    let after = group.with_shared(shared).with_loom(at, loom);
     Stepped {
         code: 0,
         said,
         steps: loom.steps,
-        group,
+        group: after,
     }
 }
 
@@ -330,14 +333,14 @@ pub fn step(group: Group, table: &[u8], states: usize, operations: usize, loom: 
     let own = group.looms[loom];
     let side = own.side;
     let numbers = group.numbers;
-    let shared = group.shared;
+    let memory = group.shared;
     let outcome = step_on(
         group.lead(),
         numbers.of(side),
         table,
         states,
         operations,
-        shared,
+        memory,
         own,
     );
     settled(group, loom, outcome)
