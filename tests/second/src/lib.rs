@@ -22,3 +22,4 @@ pub mod hall;
 // What the comparison asks with, and how it asks.
 pub mod inputs;
 pub mod wire;
+pub mod asking;

@@ -5,15 +5,11 @@
 //! step, `reader` the order's files by the reader's fields. N is the number of cases in a random
 //! trial.
 
-mod driver;
 mod floors;
 mod options;
-mod report;
-mod session;
-mod tally;
 
 use options::Options;
-use session::Session;
+use second::asking::session::Session;
 use std::process::ExitCode;
 
 fn main() -> ExitCode {
@@ -24,7 +20,7 @@ fn main() -> ExitCode {
             return ExitCode::from(2);
         }
     };
-    let mut session = match Session::start(&options) {
+    let mut session = match Session::start(&options.driver, options.cases, options.seed) {
         Ok(session) => session,
         Err(wrong) => {
             eprintln!("the driver doesn't start: {wrong}");

@@ -1,7 +1,7 @@
 //! The catalogue, lookups and the form of a table.
 
-use super::asks::{self, around, marked_bytes, pairs, EDGES, FAR};
-use crate::session::{Go, Needs, Session};
+use second::asking::asks::{self, around, marked_bytes, pairs, EDGES, FAR};
+use second::asking::session::{Go, Needs, Session};
 use second::cell::Cell;
 use second::inputs::dice::Dice;
 use second::inputs::makers;

@@ -1,8 +1,8 @@
 //! Opening, steps and restarts, on opened groups and on forged ones.
 
-use super::asks::{self, marked_words, pairs, FAR};
 use super::{forged, steps, wrong};
-use crate::session::{Go, Needs, Session};
+use second::asking::asks::{self, marked_words, pairs, FAR};
+use second::asking::session::{Go, Needs, Session};
 use second::inputs::dice::Dice;
 use second::inputs::fitting::{self, Fitting};
 use second::inputs::{known, makers};

@@ -1,7 +1,7 @@
 //! Label queries: which label the part lies in, where, and how long.
 
-use super::asks::{self, FAR};
-use crate::session::{Go, Needs, Session};
+use second::asking::asks::{self, FAR};
+use second::asking::session::{Go, Needs, Session};
 use second::inputs::dice::Dice;
 
 pub const NEEDS: Needs = &[("label", &[0, 1]), ("side asked", &[0, 1, 2])];

@@ -1,6 +1,5 @@
 //! The floors of the library, each with the trials that compare it.
 
-mod asks;
 mod cell;
 mod forged;
 mod group;
@@ -12,7 +11,7 @@ mod sets;
 mod steps;
 mod wrong;
 
-use crate::session::{Go, Session};
+use second::asking::session::{Go, Session};
 use second::wire::calls;
 use second::wire::frame::Payload;
 

@@ -1,7 +1,7 @@
 //! Reading of order files: whole, cut, changed in a field, damaged, with rooms of any length.
 
-use super::asks::{self, pairs};
-use crate::session::{Go, Needs, Session};
+use second::asking::asks::{self, pairs};
+use second::asking::session::{Go, Needs, Session};
 use second::inputs::dice::Dice;
 use second::inputs::writer::Draft;
 use second::inputs::{known, makers, samples};

@@ -1,8 +1,8 @@
 //! The check of a certificate: code, place, sizes and the working area word by word.
 
-use super::asks::{self, marked_words};
 use super::wrong;
-use crate::session::{Go, Needs, Session};
+use second::asking::asks::{self, marked_words};
+use second::asking::session::{Go, Needs, Session};
 use second::inputs::dice::Dice;
 use second::inputs::fitting::{self, Fitting};
 use second::inputs::{known, makers};

@@ -1,8 +1,8 @@
 //! Runs: counts, the final group, marks and the working area.
 
-use super::asks;
 use super::wrong::{self, Lent};
-use crate::session::{Go, Needs, Session};
+use second::asking::asks;
+use second::asking::session::{Go, Needs, Session};
 use second::inputs::dice::Dice;
 use second::inputs::fitting::{self, Fitting};
 use second::inputs::{known, makers};

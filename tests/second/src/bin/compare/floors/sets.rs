@@ -1,7 +1,7 @@
 //! Sets of states in a word.
 
-use super::asks::{self, FAR};
-use crate::session::{Go, Needs, Session};
+use second::asking::asks::{self, FAR};
+use second::asking::session::{Go, Needs, Session};
 use second::inputs::dice::Dice;
 use second::wire::calls;
 use second::wire::frame::Payload;

@@ -1,8 +1,8 @@
 //! Steps of one loom, by value or with the shared memory lent, as the function says.
 
-use super::asks::{self, pairs};
 use super::forged;
-use crate::session::{Go, Needs, Session, Stopped};
+use second::asking::asks::{self, pairs};
+use second::asking::session::{Go, Needs, Session, Stopped};
 use second::group::{self, Group, Place, NO_GROUP};
 use second::inputs::dice::Dice;
 use second::inputs::fitting::Fitting;

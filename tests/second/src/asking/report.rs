@@ -1,9 +1,9 @@
 //! A difference set out for a reader: floor, function, input, theirs, ours.
 
-use crate::driver::Difference;
-use second::wire::calls::{self, Call, Field, Kind};
-use second::wire::numbering::{HEAD, PLACE_NAMES, SLOT};
-use second::wire::record::{Record, Value};
+use super::driver::Difference;
+use crate::wire::calls::{self, Call, Field, Kind};
+use crate::wire::numbering::{HEAD, PLACE_NAMES, SLOT};
+use crate::wire::record::{Record, Value};
 
 /// Items of a slice that are shown: all of a table, few of lent memory, which holds a pattern.
 fn limit(field: Field) -> usize {

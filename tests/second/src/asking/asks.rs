@@ -1,11 +1,11 @@
 //! Requests put together from what the floors hold, and what lent memory is filled with before.
 
-use second::cell::Cell;
-use second::group::Group;
-use second::inputs::fitting::Fitting;
-use second::wire::calls;
-use second::wire::frame::Payload;
-use second::wire::numbering::{group_numbers, seat_numbers};
+use crate::cell::Cell;
+use crate::group::Group;
+use crate::inputs::fitting::Fitting;
+use crate::wire::calls;
+use crate::wire::frame::Payload;
+use crate::wire::numbering::{group_numbers, seat_numbers};
 
 /// Numbers that stand at the edge of something, or far beyond everything.
 pub const EDGES: [usize; 24] = [

@@ -1,12 +1,11 @@
 //! One comparison: trials asked through the driver, counted and judged.
 
-use crate::driver::{Case, Driver, Outcome};
-use crate::options::Options;
-use crate::report;
-use crate::tally::Tally;
-use second::inputs::dice::Dice;
-use second::wire::calls;
-use second::wire::frame::{Cursor, Payload};
+use super::driver::{Case, Driver, Outcome};
+use super::report;
+use super::tally::Tally;
+use crate::inputs::dice::Dice;
+use crate::wire::frame::{Cursor, Payload};
+use crate::wire::{answers, calls};
 
 /// Enough differences were found, or the driver has ended.
 pub struct Stopped;
@@ -34,11 +33,12 @@ pub struct Session {
 }
 
 impl Session {
-    pub fn start(options: &Options) -> std::io::Result<Session> {
+    /// Starts the driver; `cases` is the number of cases in a random trial.
+    pub fn start(driver: &[String], cases: usize, seed: u64) -> std::io::Result<Session> {
         Ok(Session {
-            driver: Driver::start(&options.driver)?,
-            cases: options.cases,
-            seed: options.seed,
+            driver: Driver::start(driver)?,
+            cases,
+            seed,
             floor: "driver",
             trial: "",
             tally: Tally::default(),
@@ -112,7 +112,7 @@ impl Session {
     /// Asks both programs; hands back what the second one answers.
     pub fn ask(&mut self, request: Payload) -> Result<Vec<u8>, Stopped> {
         let request = request.0;
-        let ours = second::wire::answers::answer(&request).expect("the request has its form");
+        let ours = answers::answer(&request).expect("the request has its form");
         self.count(request[0], &ours);
         let outcomes = self.driver.ask(Case { request, ours: ours.clone() });
         self.take(outcomes)?;

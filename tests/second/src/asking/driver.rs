@@ -4,7 +4,7 @@
 //! sides. A batch is announced to the reading thread before it is written; then whatever the driver
 //! has answered is always being taken from it.
 
-use second::wire::frame;
+use crate::wire::frame;
 use std::io::{BufReader, Read, Write};
 use std::process::{Child, ChildStdin, Command, Stdio};
 use std::sync::atomic::{AtomicU64, Ordering};

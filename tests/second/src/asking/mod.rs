@@ -1,0 +1,7 @@
+//! A driver and the second program asked the same things, and their answers compared.
+
+pub mod asks;
+pub mod driver;
+pub mod report;
+pub mod session;
+pub mod tally;
