@@ -2,4 +2,6 @@ pub mod Group
 pub mod GroupLaws
 pub mod Step
 pub mod StepLaws
+pub mod Open
+pub mod OpenLaws
 pub mod Only

@@ -3,6 +3,9 @@
 use Prim.Native.Nat.{ℕ}
 use mathlib.Core.Path.{_≡_, sym, _∙_}
 use mathlib.Core.List.{List}
+use lib.ListN.{length}
+use Rattle.recording.specs.declared.Certificate.{Certificate}
+use Rattle.recording.specs.Check.{areaOf}
 use Rattle.loom.specs.declared.Side.{Side}
 use Rattle.loom.specs.declared.Loom.{Loom}
 use Rattle.loom.specs.declared.Lead.{Lead}
@@ -11,10 +14,12 @@ use Rattle.loom.specs.Looms.{rulesOf}
 use Rattle.group.specs.declared.Sets.{Sets}
 use Rattle.group.specs.declared.Numbers.{Numbers}
 use Rattle.group.specs.declared.Group.{Group}
+use Rattle.group.specs.declared.Opened.{Opened}
 use Rattle.group.specs.declared.Outcome.{Outcome}
 use Rattle.group.specs.declared.Stepped.{Stepped}
 use Rattle.group.specs.declared.Restarted.{Restarted}
 use Rattle.group.specs.Group.{setOf, numberOf}
+use Rattle.group.specs.Open.{pieces, openOf}
 use Rattle.group.specs.Step.{stepOnOf, stepOf, restartOf, restartAllOf}
 
 pub sets-only-of : (self : Sets) (side : Side) (r s : ℕ) → r ≡ setOf self side → s ≡ setOf self side → r ≡ s
@@ -22,6 +27,12 @@ sets-only-of self side r s p q = p ∙ sym q
 
 pub numbers-only-of : (self : Numbers) (side : Side) (r s : ℕ) → r ≡ numberOf self side → s ≡ numberOf self side → r ≡ s
 numbers-only-of self side r s p q = p ∙ sym q
+
+pub only-open : (table : List ℕ) (states operations : ℕ) (certificate : Certificate) (a b : ℕ) (area : List ℕ) (r s : Opened) (x y : List ℕ) →
+    (r ≡ openOf table states operations certificate (pieces a b) (length area)) × (x ≡ areaOf table states operations certificate area) →
+    (s ≡ openOf table states operations certificate (pieces a b) (length area)) × (y ≡ areaOf table states operations certificate area) →
+    (r ≡ s) × (x ≡ y)
+only-open table states operations certificate a b area r s x y p q = (p .0 ∙ sym (q .0), p .1 ∙ sym (q .1))
 
 pub only-step-on : (lead : Lead) (number : ℕ) (table : List ℕ) (states operations : ℕ) (shared : Shared) (loom : Loom) (r s : Outcome) →
     r ≡ stepOnOf (rulesOf lead) number table states operations shared loom →

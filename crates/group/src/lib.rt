@@ -1,13 +1,16 @@
 // A group of looms over one cell: opened, stepped and restarted.
 ghost use mathlib.Core.Path.{_≡_};
 ghost use mathlib.Core.Bool.{true};
-ghost use Prim.Native.Nat.{_<_, _≤_};
-ghost use lib.ListN.{take};
+ghost use Prim.Native.Nat.{ℕ, _<_, _≤_};
+ghost use lib.ListN.{length, getD, take};
 ghost use Rattle.cell.specs.Limits.{edition};
 ghost use Rattle.cell.specs.Table.{pick};
 ghost use Rattle.loom.specs.Sides.{sameSide};
+ghost use Rattle.recording.specs.Recording.{emptySeat};
+ghost use Rattle.recording.specs.Check.{areaOf};
 ghost use Rattle.loom.specs.Looms.{rulesOf};
-ghost use Rattle.group.specs.Group.{setOf, numberOf, countOf, yieldingOf, leadOf, withLoom, withShared, noLoom, restartedAt, restartedBelow};
+ghost use Rattle.group.specs.Open.{pieces, loomOf, slotsOf, freshGroup, unopened, openedBy, openOf, Held};
+ghost use Rattle.group.specs.Group.{emptyLoom, setOf, numberOf, countOf, yieldingOf, leadOf, withLoom, withShared, noLoom, restartedAt, restartedBelow};
 ghost use Rattle.group.specs.Step.{fittedOf, hasAnswered, permitOf, unmoved, taken, stepOnOf, refused, settled, stepOf, restartOf, restartAllOf};
 use loom::Lead;
 use loom::Loom;
@@ -16,6 +19,9 @@ use loom::Said;
 use loom::Shared;
 use loom::Side;
 use loom::Turned;
+use recording::Certificate;
+use recording::Judged;
+use recording::Seat;
 
 // The two sides' sets of states.
 pub struct Sets {
@@ -44,6 +50,12 @@ pub struct Group {
 enum Permit {
     Granted(u8),
     Denied(u8),
+}
+
+// What an opening comes to: the code and the group.
+pub struct Opened {
+    pub code: u8,
+    pub group: Group,
 }
 
 // What a step on lent memory comes to: the code, what it says, the memory and the loom.
@@ -90,6 +102,131 @@ impl Numbers {
             Side::B => self.b,
         }
     }
+}
+
+// An empty slot.
+fn empty_loom() -> Loom
+    ensures { λ r. ⌜ r ≡ emptyLoom ⌝ }
+{
+    Loom {
+        side: Side::A,
+        operation: 0,
+        steps: 0,
+        place: Place::Begin,
+    }
+}
+
+// The loom of a seat as it opens.
+fn loom_of(seat: Seat) -> Loom
+    requires { ⌜ seat .operation < 256 ⌝ }
+    ensures { λ r. ⌜ r ≡ loomOf seat ⌝ }
+{
+    let side = loom::side_from(seat.side);
+    Loom {
+        side,
+        operation: seat.operation as u8,
+        steps: 0,
+        place: Place::Begin,
+    }
+}
+
+// The slots of a group: a loom for each of the first seats, and empty ones.
+fn slots(seats: [Seat; 8], count: usize) -> [Loom; 8]
+    requires { ⌜ (count ≤ edition .looms) × ((k : ℕ) → k < count → getD seats k emptySeat .operation < 256) ⌝ }
+    ensures { λ r. ⌜ r ≡ slotsOf count seats ⌝ }
+{
+    let mut looms = [empty_loom(); 8];
+    let mut i = 0;
+    while i < count {
+        let seat = seats[i];
+        let loom = loom_of(seat);
+        looms[i] = loom;
+        i += 1;
+    }
+    looms
+}
+
+// A group as it opens.
+fn fresh(certificate: Certificate, sets: Sets, numbers: Numbers) -> Group
+    requires { ⌜ Held certificate ⌝ }
+    ensures { λ r. ⌜ r ≡ freshGroup certificate sets numbers ⌝ }
+{
+    let start = certificate.start as u8;
+    let seats = certificate.seats;
+    let looms = slots(seats, certificate.count);
+    let shared = Shared {
+        cell: start,
+        a: 0,
+        b: 0,
+    };
+    Group {
+        count: certificate.count,
+        start,
+        sets,
+        numbers,
+        shared,
+        looms,
+    }
+}
+
+// A refused opening: zeros and no looms.
+fn unopened(code: u8) -> Opened
+    ensures { λ r. ⌜ r ≡ unopened code ⌝ }
+{
+    let looms = [empty_loom(); 8];
+    let group = Group {
+        count: 0,
+        start: 0,
+        sets: Sets { a: 0, b: 0 },
+        numbers: Numbers { a: 0, b: 0 },
+        shared: Shared {
+            cell: 0,
+            a: 0,
+            b: 0,
+        },
+        looms,
+    };
+    Opened { code, group }
+}
+
+// A group opened from a table, a certificate and two numbers. Refuses with the check's codes, then with 10 where a number is 0; then
+// there is no group. The area is as the check leaves it.
+pub fn open(
+    table: &[u8],
+    states: usize,
+    operations: usize,
+    certificate: Certificate,
+    a: u32,
+    b: u32,
+    area: &mut [u64],
+) -> Opened
+    ensures { λ r. ⌜ (r ≡ openOf (now (table .entry)) states operations certificate (pieces a b) (length (now (area .entry))))
+        × (now (area .exit) ≡ areaOf (now (table .entry)) states operations certificate (now (area .entry))) ⌝ }
+{
+    let judged = recording::judge(table, states, operations, certificate, area);
+    opening(judged, certificate, Numbers { a, b })
+}
+
+// What an opening comes to, once the check has judged.
+fn opening(judged: Judged, certificate: Certificate, numbers: Numbers) -> Opened
+    requires { ⌜ (judged .code ≡ 0 → Held certificate) ⌝ }
+    ensures { λ r. ⌜ r ≡ openedBy judged certificate numbers ⌝ }
+{
+    if judged.code != 0 {
+        return unopened(judged.code);
+    }
+    if numbers.a == 0 {
+        return unopened(10);
+    }
+    if numbers.b == 0 {
+        return unopened(10);
+    }
+    let sets = Sets {
+        a: judged.a,
+        b: judged.b,
+    };
+    let group = fresh(certificate, sets, numbers);
+    Opened { code: 0, group }
 }
 
 // The yielding side of a start and two sets.
