@@ -25,7 +25,11 @@ u64 linuktabay_form_place(const u8 *table, u64 length, u64 states, u64 operation
 u64 linuktabay_next(const u8 *table, u64 length, u64 states, u64 operation, u64 state);
 void linuktabay_check(const u8 *table, u64 length, u64 states, u64 operations, u64 start, u64 looms, const u64 seats[16], u64 *area, u64 words,
                       u64 out[4]);
+u8 linuktabay_open(const u8 *table, u64 length, u64 states, u64 operations, u64 start, u64 looms, const u64 seats[16], u32 a, u32 b, u64 *area,
+                   u64 words, u64 group[41]);
+u8 linuktabay_step(const u8 *table, u64 length, u64 states, u64 operations, u64 loom, u64 group[41], u64 out[4]);
 u8 linuktabay_restart(u64 loom, u64 group[41]);
+u8 linuktabay_restart_all(u64 group[41]);
 
 enum { ROOM = 1 << 20 };
 
@@ -169,10 +173,38 @@ static void check(void) {
     say_words(area);
 }
 
-static void restart(void) {
-    u64 loom = number(), group[41];
+static void open_group(void) {
+    struct given g = given();
+    u32 a = number(), b = number();
+    struct words area = words();
+    u64 group[41] = {0};
+    say(linuktabay_open(g.table.first, g.table.length, g.states, g.operations, g.start, g.looms, g.seats, a, b, area.first, area.length, group));
+    say_numbers(group, 41);
+    say_words(area);
+}
+
+/* What a step says, as the calls have it: nothing, an application or an answer; the answer's side and number; the step count. */
+static void say_said(const u64 out[4]) {
+    u64 mark = out[0], applied = out[1], piece = out[2], steps = out[3];
+    say(mark != 0 ? 2 : applied);
+    say(mark == 2);
+    say(piece);
+    say(steps);
+}
+
+static void step(void) {
+    struct bytes table = bytes();
+    u64 states = number(), operations = number(), loom = number(), group[41], out[4] = {0};
     numbers(group, 41);
-    say(linuktabay_restart(loom, group));
+    say(linuktabay_step(table.first, table.length, states, operations, loom, group, out));
+    say_said(out);
+    say_numbers(group, 41);
+}
+
+static void restart(u8 function) {
+    u64 loom = function == 32 ? number() : 0, group[41];
+    numbers(group, 41);
+    say(function == 32 ? linuktabay_restart(loom, group) : linuktabay_restart_all(group));
     say_numbers(group, 41);
 }
 
@@ -185,7 +217,9 @@ static void answer_call(void) {
     case 11: return next();
     case 12: return form();
     case 20: return check();
-    case 32: return restart();
+    case 30: return open_group();
+    case 31: return step();
+    case 32: case 33: return restart(function);
     default: STOP("driver: no such function");
     }
 }

@@ -15,6 +15,7 @@ use Rattle.loom.specs.Numbers.{placeFrom, saidNumber, saidApplied, saidPiece}
 use Rattle.group.specs.declared.Group.{Group}
 use Rattle.group.specs.declared.Restarted.{Restarted}
 use Rattle.group.specs.declared.Stepped.{Stepped}
+use Rattle.group.specs.declared.Opened.{Opened}
 use Rattle.group.specs.Group.{loomAt}
 
 -- A number of C's in a byte, and in a half word.
@@ -96,3 +97,9 @@ pub record Steps (answer : Stepped) (group out : List ℕ) (code : ℕ) (group�
   pub its-code : code ≡ answer .code
   pub its-group : group′ ≡ withGroup group (answer .group)
   pub its-word : out′ ≡ withSaid out (answer .said) (answer .steps)
+
+-- What an opening leaves in C's numbers: its code and the group; and the area.
+pub record Opens (answer : Opened) (words : List ℕ) (group : List ℕ) (code : ℕ) (group′ area′ : List ℕ) : Type 0 where
+  pub its-code : code ≡ answer .code
+  pub its-group : group′ ≡ withGroup group (answer .group)
+  pub its-area : area′ ≡ words

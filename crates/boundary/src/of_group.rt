@@ -1,4 +1,5 @@
 // The floor `group`.
+use crate::of_recording::certificate_from;
 use group::Group;
 use group::Numbers;
 use group::Sets;
@@ -7,9 +8,13 @@ use loom::Said;
 use loom::Shared;
 ghost use mathlib.Core.Path.{_≡_};
 ghost use mathlib.Core.List.{[], _∷_};
+ghost use lib.ListN.{length};
+ghost use Rattle.recording.specs.Check.{areaOf};
+ghost use Rattle.group.specs.Open.{openOf, pieces};
+ghost use Rattle.boundary.specs.Certificates.{certificateFrom};
 ghost use Rattle.group.specs.Step.{stepOf, restartOf, restartAllOf};
 ghost use Prim.Native.Nat.{_≤_};
-ghost use Rattle.boundary.specs.Groups.{inByte, inHalf, loomFrom, slotFrom, sharedFrom, piecesFrom, setsFrom, loomsFrom, groupFrom, withFour, withLoom, withBoard, withGroup, withSaid, Restarts, Steps};
+ghost use Rattle.boundary.specs.Groups.{inByte, inHalf, loomFrom, slotFrom, sharedFrom, piecesFrom, setsFrom, loomsFrom, groupFrom, withFour, withLoom, withBoard, withGroup, withSaid, Restarts, Steps, Opens};
 
 // A number of C's in a byte.
 fn in_byte(n: usize) -> u8
@@ -241,4 +246,30 @@ pub extern "C" fn linuktabay_restart_all(group: &mut [usize; 41]) -> u8
     let after = restarted.group;
     *group = with_group(n, after);
     restarted.code
+}
+
+// `group::open`: the code, and the group's numbers; the area as the check leaves it.
+#[no_mangle]
+pub extern "C" fn linuktabay_open(
+    table: &[u8],
+    states: usize,
+    operations: usize,
+    start: usize,
+    count: usize,
+    seats: &[usize; 16],
+    a: u32,
+    b: u32,
+    area: &mut [u64],
+    group: &mut [usize; 41],
+) -> u8
+    ensures { λ r. ⌜ Opens (openOf (now (table .entry)) states operations (certificateFrom start count (now (seats .entry))) (pieces a b) (length (now (area .entry))))
+        (areaOf (now (table .entry)) states operations (certificateFrom start count (now (seats .entry))) (now (area .entry))) (now (group .entry)) r (now (group .exit)) (now (area .exit)) ⌝ }
+{
+    let n = *seats;
+    let old = *group;
+    let certificate = certificate_from(start, count, n);
+    let opened = group::open(table, states, operations, certificate, a, b, area);
+    let after = opened.group;
+    *group = with_group(old, after);
+    opened.code
 }
