@@ -1,2 +1,5 @@
 pub mod Acts
 pub mod Kept
+pub mod KeptLaws
+pub mod Fits
+pub mod FitsLaws
