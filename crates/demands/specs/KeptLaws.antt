@@ -89,7 +89,7 @@ kept-by-step table states operations g k = by-test (noLoom g k)
 kept-restarted : (g : Group) (k : ℕ) → Kept g (restartedAt g k)
 kept-restarted g k = kept-with-loom g k _ (record { side = refl; operation = refl })
 
-kept-restarted-below : (g : Group) (n : ℕ) → Kept g (restartedBelow g n)
+pub kept-restarted-below : (g : Group) (n : ℕ) → Kept g (restartedBelow g n)
 unfolding restartedBelow
 kept-restarted-below g zero = kept-itself g
 kept-restarted-below g (suc n) = kept-further _ _ _ (kept-restarted-below g n) (kept-restarted (restartedBelow g n) n)
