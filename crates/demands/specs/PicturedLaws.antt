@@ -23,8 +23,8 @@ use Rattle.loom.specs.declared.Shared.{Shared}
 use Rattle.loom.specs.Sides.{sideNumber, sideFrom, sameSide, register}
 use Rattle.loom.specs.Turn.{Rules, Turn, turnOf}
 use Rattle.loom.specs.Looms.{movedTo, restartedOf}
-use Rattle.agreement.specs.Machine.{Event, State, sideOf, changedAt, withPost, withSaid, turned, steppedFrom, stepped, acted, after}
-use Rattle.agreement.specs.MachineLaws.{changed-other, stepped-no-loom, stepped-loom}
+use Rattle.agreement.specs.Machine.{Event, step, State, sideOf, changedAt, withPost, withSaid, turned, steppedFrom, stepped, acted, after}
+use Rattle.agreement.specs.MachineLaws.{changed-other, stepped-no-loom, stepped-loom, stepped-answered}
 use Rattle.agreement.specs.LogLaws.{register-written}
 use Rattle.group.specs.declared.Group.{Group}
 use Rattle.group.specs.Group.{emptyLoom, loomAt, numberOf, countOf, yieldingOf, leadOf, groupRules, withLoom, withShared, restartedAt, restartedBelow}
@@ -82,15 +82,6 @@ changed-alike f e k p q j same new = by-test (eqb j k)
     by-test true = new
     by-test false = same
 
--- A family changed at k to what it has there is as it was.
-changed-back : (f : ℕ → Place) (k : ℕ) (p : Place) (j : ℕ) → p ≡ f k → f j ≡ changedAt f k p j
-unfolding changedAt
-changed-back f k p j same = by-test (eqb j k) refl
-  where
-    by-test : (b : Bool) → eqb j k ≡ b → f j ≡ cond b p (f j)
-    by-test true e = ap f (eqb-true j k e) ∙ sym same
-    by-test false e = refl
-
 -- What a step from begin has written is what its side's register then holds.
 post-read-back : (R : Rules) (k : ℕ) (s : Side) (v : ℕ) (op : ℕ → ℕ) (m : Shared) (p : Place) (log : List Event) →
     withPost k s (register (turnOf R s v op m p .shared) s) p log ≡ withPost k s v p log
@@ -119,13 +110,10 @@ place-restarted-below g (suc n) room j here =
     place-with-loom (restartedBelow g n) n _ (omega (arith, kept-restarted-below g n .slots)) j
     ∙ begin-one-more _ n j (place-restarted-below g n (omega arith)) here
 
-module _ (table : List ℕ) (states operations : ℕ) (looms : List Seat) (good : WellFormed table states operations looms) where
-  -- The rules read off a group are fixed along acts.
-  pub rules-kept : (g h : Group) → Kept g h → Fits states looms g → Fits states looms h → groupRules h ≡ groupRules g
-  rules-kept g h kept one two =
-      rules-of-seats looms h (good .sides) (two .seated)
-      ∙ rw (kept .start, kept .sets) refl
-      ∙ sym (rules-of-seats looms g (good .sides) (one .seated))
+-- They are fixed where acts leave the seats, the start and the sets alone.
+pub rules-kept : (looms : List Seat) (g h : Group) → ((k : ℕ) → sideAt looms k ≤ 1) → Kept g h → Seated looms g → Seated looms h → groupRules h ≡ groupRules g
+rules-kept looms g h within kept one two =
+    rules-of-seats looms h within two ∙ rw (kept .start, kept .sets) refl ∙ sym (rules-of-seats looms g within one)
 
 module _ (table : List ℕ) (states operations : ℕ) (looms : List Seat) (good : WellFormed table states operations looms) (R : Rules) (num : Side → ℕ) where
   -- The group fits, goes by these rules, posts these numbers, and is a picture of the machine's state.
@@ -152,24 +140,15 @@ module _ (table : List ℕ) (states operations : ℕ) (looms : List Seat) (good 
     room : k < length (h .group .looms)
     room = omega (arith, along .fits .seated .slots)
 
-    -- A loom that has answered stays, and so does the machine's.
-    pictured-answered : (x : Side) → loomAt (h .group) k .place ≡ Answered x →
-        Pictured looms (steppedTo k h (stepOf table states operations (h .group) k)) (steppedFrom (entryOf table states) looms R k (num (sideOf looms k)) (Answered x) S)
-    unfolding noted steppedFrom turned turnOf withPost withSaid
-    pictured-answered x there =
-        rw (step-of-answered table states operations looms good (h .group) (along .fits) k here (ap hasAnswered there))
-        record {
-          shared = along .pictured .shared;
-          place = λ j below. along .pictured .place j below ∙ changed-back (S .place) k (Answered x) j (sym there ∙ along .pictured .place k here);
-          log = along .pictured .log;
-        }
-
-    -- Any other takes its turn, and the log is told of it.
+    -- A loom that has not answered takes its turn, and the log is told of it.
     pictured-taken : hasAnswered (loomAt (h .group) k .place) ≡ false →
-        Pictured looms (steppedTo k h (stepOf table states operations (h .group) k)) (stepped (entryOf table states) looms R k (num (sideOf looms k)) S)
+        Pictured looms (steppedTo k h (stepOf table states operations (h .group) k)) (acted (entryOf table states) looms R (step k (num (sideOf looms k))) S)
     unfolding noted stepped steppedFrom turned
     pictured-taken going =
-        rw (step-of-unanswered table states operations looms good (h .group) (along .fits) k here going)
+        rw (
+          step-of-unanswered table states operations looms good (h .group) (along .fits) k here going,
+          stepped-loom (entryOf table states) looms R S k (num (sideOf looms k)) here,
+        )
         record {
           shared = ap (λ t. t .shared) turn-same;
           place = λ j below.
@@ -189,29 +168,39 @@ module _ (table : List ℕ) (states operations : ℕ) (looms : List Seat) (good 
               refl);
         }
 
+    -- One that has answered stays, and so does the machine.
+    pictured-answered : (x : Side) → loomAt (h .group) k .place ≡ Answered x →
+        Pictured looms (steppedTo k h (stepOf table states operations (h .group) k)) (acted (entryOf table states) looms R (step k (num (sideOf looms k))) S)
+    unfolding noted
+    pictured-answered x there =
+        rw (
+          step-of-answered table states operations looms good (h .group) (along .fits) k here (ap hasAnswered there),
+          stepped-answered (entryOf table states) looms R S k (num (sideOf looms k)) x (sym (along .pictured .place k here) ∙ there),
+        )
+        record { shared = along .pictured .shared; place = along .pictured .place; log = along .pictured .log }
+
     pictured-stepped : (p : Place) → loomAt (h .group) k .place ≡ p →
-        Pictured looms (steppedTo k h (stepOf table states operations (h .group) k)) (stepped (entryOf table states) looms R k (num (sideOf looms k)) S)
-    unfolding stepped
+        Pictured looms (steppedTo k h (stepOf table states operations (h .group) k)) (acted (entryOf table states) looms R (step k (num (sideOf looms k))) S)
     pictured-stepped Begin there = pictured-taken (ap hasAnswered there)
     pictured-stepped Posted there = pictured-taken (ap hasAnswered there)
     pictured-stepped Looking there = pictured-taken (ap hasAnswered there)
     pictured-stepped Ready there = pictured-taken (ap hasAnswered there)
     pictured-stepped Applied there = pictured-taken (ap hasAnswered there)
     pictured-stepped (Bound x) there = pictured-taken (ap hasAnswered there)
-    pictured-stepped (Answered x) there = rw (sym (along .pictured .place k here) ∙ there) (pictured-answered x there)
+    pictured-stepped (Answered x) there = pictured-answered x there
 
   -- Each act on the group is that act of the machine.
   module _ (h : History) (S : State) (along : Along h S) where
     pictured-by-step : (k : ℕ) → Dec (k < length looms) →
         Pictured looms (actedOn table states operations (loomSteps k) h) (acted (entryOf table states) looms R (numbered num looms (loomSteps k)) S)
     unfolding actedOn numbered noted
-    pictured-by-step k (yes here) =
-        rw (stepped-loom (entryOf table states) looms R S k (num (sideOf looms k)) here)
-        (pictured-stepped h S along k here (loomAt (h .group) k .place) refl)
+    pictured-by-step k (yes here) = pictured-stepped h S along k here (loomAt (h .group) k .place) refl
     pictured-by-step k (no past) =
-        rw (stepped-no-loom (entryOf table states) looms R S k (num (sideOf looms k)) (omega arith))
-        (rw (step-of-none table states operations looms good (h .group) (along .fits) k (omega arith))
-        record { shared = along .pictured .shared; place = along .pictured .place; log = along .pictured .log })
+        rw (
+          step-of-none table states operations looms good (h .group) (along .fits) k (omega arith),
+          stepped-no-loom (entryOf table states) looms R S k (num (sideOf looms k)) (omega arith),
+        )
+        record { shared = along .pictured .shared; place = along .pictured .place; log = along .pictured .log }
 
     pictured-by-restart : (k : ℕ) → Dec (k < length looms) →
         Pictured looms (actedOn table states operations (loomRestarts k) h) (acted (entryOf table states) looms R (numbered num looms (loomRestarts k)) S)
@@ -257,7 +246,7 @@ module _ (table : List ℕ) (states operations : ℕ) (looms : List Seat) (good 
         let fits = fits-by-act table states operations looms good a h (along .fits) in
         record {
           fits = fits;
-          rules = rules-kept table states operations looms good (h .group) _ kept (along .fits) fits ∙ along .rules;
+          rules = rules-kept looms (h .group) _ (good .sides) kept (along .fits .seated) (fits .seated) ∙ along .rules;
           numbers = ap numberOf (kept .numbers) ∙ along .numbers;
           pictured = pictured-by-act a;
         }
