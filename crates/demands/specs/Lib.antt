@@ -5,3 +5,6 @@ pub mod Fits
 pub mod FitsLaws
 pub mod Pictured
 pub mod PicturedLaws
+pub mod RendersLaws
+pub mod NewlyOpened
+pub mod NewlyOpenedLaws
