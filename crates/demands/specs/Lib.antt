@@ -8,3 +8,5 @@ pub mod PicturedLaws
 pub mod RendersLaws
 pub mod NewlyOpened
 pub mod NewlyOpenedLaws
+pub mod Steps
+pub mod StepsLaws

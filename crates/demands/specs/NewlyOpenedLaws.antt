@@ -1,27 +1,34 @@
 -- A newly opened group is a picture of the machine at its opening, and stays one; so what is proved of the machine holds of it.
 -- Assumes nothing.
-use Prim.Native.Nat.{ℕ}
+use Prim.Native.Nat.{ℕ, _≤_, _<_}
+use native.Mathlib.Omega.{arith}
 use mathlib.Core.Path.{_≡_, refl, ap, sym, _∙_}
 use mathlib.Core.List.{List, [], _∷_}
+use lib.ListN.{length}
 use Rattle.cell.specs.Table.{entryOf}
 use Rattle.recording.specs.declared.Certificate.{Certificate}
 use Rattle.recording.specs.declared.Seat.{Seat}
 use Rattle.recording.specs.Check.{loomsOf}
 use Rattle.loom.specs.declared.Side.{Side}
 use Rattle.loom.specs.Turn.{Rules}
-use Rattle.agreement.specs.Machine.{EachStep, State, sideOf, after, opening}
+use Rattle.agreement.specs.Machine.{Act as MachineAct, EachStep, State, sideOf, after, opening}
 use Rattle.agreement.specs.Fitted.{Renders, Fitted}
 use Rattle.agreement.specs.Agreed.{Agreed}
 use Rattle.agreement.specs.Agreement.{agreed}
+use Rattle.agreement.specs.SixSteps as machine
+use Rattle.agreement.specs.StepsLaws.{rank-at-most-six, spoken-after}
 use Rattle.group.specs.declared.Numbers.{Numbers}
 use Rattle.group.specs.declared.Group.{Group}
-use Rattle.group.specs.Group.{numberOf, groupRules}
-use Rattle.demands.specs.Acts.{Act, loomSteps, loomRestarts, allRestart, History, untouched, historyAfter, eventsAfter}
+use Rattle.group.specs.Group.{loomAt, numberOf, groupRules}
+use Rattle.group.specs.Step.{stepOf}
+use Rattle.demands.specs.Acts.{Act, loomSteps, loomRestarts, allRestart, History, untouched, historyAfter, groupAfter, eventsAfter}
 use Rattle.demands.specs.Fits.{Fits}
 use Rattle.demands.specs.Pictured.{rulesBy, numbered, allNumbered}
 use Rattle.demands.specs.PicturedLaws.{rules-of-seats, Along, along-always}
 use Rattle.demands.specs.RendersLaws.{renders-of-sets}
 use Rattle.demands.specs.NewlyOpened.{NewlyOpened}
+use Rattle.demands.specs.Steps.{stepsOf, Unrestarted, HasAnswered}
+use Rattle.demands.specs.StepsLaws.{steps-numbered, unrestarted-numbered, AllWithin, within-always, result-at-most-six}
 
 -- Each step among numbered acts brings its side's number.
 pub each-numbered : (num : Side → ℕ) (looms : List Seat) (acts : List Act) → EachStep (λ k v. v ≡ num (sideOf looms k)) (allNumbered num looms acts)
@@ -63,3 +70,50 @@ module _ {table : List ℕ} {states operations : ℕ} {c : Certificate} {numbers
   agreed-always acts =
       rw (along acts .pictured .log)
       (agreed fitted (numberOf numbers) (new .filled) (allNumbered (numberOf numbers) (loomsOf c) acts) (each-numbered (numberOf numbers) (loomsOf c) acts))
+
+  counts-within : (acts : List Act) → AllWithin (length (loomsOf c)) (groupAfter table states operations acts g)
+  counts-within acts =
+      within-always table states operations (loomsOf c) (new .good) acts (untouched g) fits-at-opening
+      (λ k here. omega (arith, new .uncounted k here))
+
+  -- Six steps from wherever the group has come to: the loom has answered, and its answer is in the log.
+  pub answered-by-six : (before acts : List Act) (k : ℕ) → k < length (loomsOf c) → Unrestarted k acts → 6 ≤ stepsOf k acts →
+      HasAnswered k (historyAfter table states operations acts (historyAfter table states operations before (untouched g)))
+  answered-by-six before acts k here free six =
+      let done = machine.six-steps next (loomsOf c) (groupRules g) (machineActs acts) came k here (unrestarted-numbered (numberOf numbers) (loomsOf c) k acts free)
+          (rw (steps-numbered (numberOf numbers) (loomsOf c) k acts) six) in
+      let spoken = spoken-after next (loomsOf c) (groupRules g) (machineActs acts) came
+          (spoken-after next (loomsOf c) (groupRules g) (machineActs before) (opening (c .start)) (λ j. tt)) k in
+      let said = rw (done .1) at spoken in
+      record {
+        side = done .0;
+        number = said .0;
+        there = onward .pictured .place k here ∙ done .1;
+        told = rw (onward .pictured .log) (said .1);
+      }
+    where
+      next : ℕ → ℕ → ℕ
+      next = entryOf table states
+
+      machineActs : List Act → List MachineAct
+      machineActs = allNumbered (numberOf numbers) (loomsOf c)
+
+      came : State
+      came = after next (loomsOf c) (groupRules g) (machineActs before) (opening (c .start))
+
+      onward : Along table states operations (loomsOf c) (new .good) (groupRules g) (numberOf numbers)
+          (historyAfter table states operations acts (historyAfter table states operations before (untouched g)))
+          (after next (loomsOf c) (groupRules g) (machineActs acts) came)
+      onward = along-always table states operations (loomsOf c) (new .good) (groupRules g) (numberOf numbers) acts _ _ (along before)
+
+  pub counts-at-most-six : (acts : List Act) (k : ℕ) → k < length (loomsOf c) → loomAt (groupAfter table states operations acts g) k .steps ≤ 6
+  counts-at-most-six acts k here =
+      omega (
+        arith,
+        rank-at-most-six (loomAt (groupAfter table states operations acts g) k .place),
+        counts-within acts k here,
+      )
+
+  pub results-at-most-six : (acts : List Act) (k : ℕ) → stepOf table states operations (groupAfter table states operations acts g) k .steps ≤ 6
+  results-at-most-six acts k =
+      result-at-most-six table states operations (loomsOf c) (new .good) (groupAfter table states operations acts g) (along acts .fits) (counts-within acts) k
