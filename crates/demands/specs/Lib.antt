@@ -6,6 +6,7 @@ pub mod FitsLaws
 pub mod Pictured
 pub mod PicturedLaws
 pub mod RendersLaws
+pub mod Processes
 pub mod NewlyOpened
 pub mod NewlyOpenedLaws
 pub mod Steps

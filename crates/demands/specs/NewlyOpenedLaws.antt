@@ -2,7 +2,7 @@
 -- Assumes nothing.
 use Prim.Native.Nat.{ℕ, _≤_, _<_}
 use native.Mathlib.Omega.{arith}
-use mathlib.Core.Path.{_≡_, refl, ap, sym, _∙_}
+use mathlib.Core.Path.{_≡_, refl, ap, sym, subst, _∙_}
 use mathlib.Core.List.{List, [], _∷_}
 use lib.ListN.{length}
 use Rattle.cell.specs.Table.{entryOf}
@@ -10,12 +10,16 @@ use Rattle.recording.specs.declared.Certificate.{Certificate}
 use Rattle.recording.specs.declared.Seat.{Seat}
 use Rattle.recording.specs.Check.{loomsOf}
 use Rattle.loom.specs.declared.Side.{Side}
-use Rattle.loom.specs.Turn.{Rules}
-use Rattle.agreement.specs.Machine.{Act as MachineAct, EachStep, State, sideOf, after, opening}
+use Rattle.loom.specs.Sides.{other, register}
+use Rattle.agreement.specs.Machine.{Filled, Act as MachineAct, EachStep, State, sideOf, after, opening}
 use Rattle.agreement.specs.Fitted.{Renders, Fitted}
 use Rattle.agreement.specs.Agreed.{Agreed}
 use Rattle.agreement.specs.Agreement.{agreed}
+use Rattle.agreement.specs.MachineLaws.{each-step-weaker}
 use Rattle.agreement.specs.SixSteps as machine
+use Rattle.agreement.specs.Figure.{ran, initial}
+use Rattle.agreement.specs.Matched.{Matched, answersOf}
+use Rattle.agreement.specs.FigureTwo.{figure-two}
 use Rattle.agreement.specs.StepsLaws.{rank-at-most-six, spoken-after}
 use Rattle.group.specs.declared.Numbers.{Numbers}
 use Rattle.group.specs.declared.Group.{Group}
@@ -23,10 +27,11 @@ use Rattle.group.specs.Group.{loomAt, numberOf, groupRules}
 use Rattle.group.specs.Step.{stepOf}
 use Rattle.demands.specs.Acts.{Act, loomSteps, loomRestarts, allRestart, History, untouched, historyAfter, groupAfter, eventsAfter}
 use Rattle.demands.specs.Fits.{Fits}
-use Rattle.demands.specs.Pictured.{rulesBy, numbered, allNumbered}
+use Rattle.demands.specs.Pictured.{numbered, allNumbered, Pictured}
 use Rattle.demands.specs.PicturedLaws.{rules-of-seats, Along, along-always}
 use Rattle.demands.specs.RendersLaws.{renders-of-sets}
 use Rattle.demands.specs.NewlyOpened.{NewlyOpened}
+use Rattle.demands.specs.Processes.{settingIn, SameState}
 use Rattle.demands.specs.Steps.{stepsOf, Unrestarted, HasAnswered}
 use Rattle.demands.specs.StepsLaws.{steps-numbered, unrestarted-numbered, AllWithin, within-always, result-at-most-six}
 
@@ -117,3 +122,40 @@ module _ {table : List ℕ} {states operations : ℕ} {c : Certificate} {numbers
   pub results-at-most-six : (acts : List Act) (k : ℕ) → stepOf table states operations (groupAfter table states operations acts g) k .steps ≤ 6
   results-at-most-six acts k =
       result-at-most-six table states operations (loomsOf c) (new .good) (groupAfter table states operations acts g) (along acts .fits) (counts-within acts) k
+
+  -- Whatever the acts, the looms and Figure 2's processes stay in the same state.
+  pub same-state-always : (acts : List Act) →
+      SameState (loomsOf c) (groupRules g) (settingIn table states (loomsOf c) g)
+      (historyAfter table states operations acts (untouched g))
+      (ran (settingIn table states (loomsOf c) g) (allNumbered (numberOf numbers) (loomsOf c) acts) (initial (settingIn table states (loomsOf c) g)))
+  same-state-always acts =
+      record {
+        cell = ap (λ m. m .cell) (pictured .shared) ∙ matched .cell;
+        leading = ap (λ m. register m (groupRules g .leading)) (pictured .shared) ∙ matched .leading;
+        yielding = ap (λ m. register m (other (groupRules g .leading))) (pictured .shared) ∙ matched .yielding;
+        place = λ k here. pictured .place k here ∙ matched .place k;
+        answers = ap answersOf (pictured .log) ∙ matched .answers;
+      }
+    where
+      machineActs : List MachineAct
+      machineActs = allNumbered (numberOf numbers) (loomsOf c) acts
+
+      filled-acts : EachStep (λ k v. Filled v) machineActs
+      filled-acts =
+          each-step-weaker (λ k v. v ≡ numberOf numbers (sideOf (loomsOf c) k)) (λ k v. Filled v)
+          (λ k v e none. new .filled (sideOf (loomsOf c) k) (sym e ∙ none)) machineActs (each-numbered (numberOf numbers) (loomsOf c) acts)
+
+      matched : Matched (groupRules g .leading) (settingIn table states (loomsOf c) g)
+          (after (entryOf table states) (loomsOf c) (groupRules g) machineActs (opening (c .start)))
+          (ran (settingIn table states (loomsOf c) g) machineActs (initial (settingIn table states (loomsOf c) g)))
+      matched =
+          subst
+          (λ q. Matched (groupRules g .leading) (settingIn table states (loomsOf c) g)
+              (after (entryOf table states) (loomsOf c) (groupRules g) machineActs (opening q))
+              (ran (settingIn table states (loomsOf c) g) machineActs (initial (settingIn table states (loomsOf c) g))))
+          (rules-render .the-start)
+          (figure-two (entryOf table states) (loomsOf c) (groupRules g) machineActs filled-acts)
+
+      pictured : Pictured (loomsOf c) (historyAfter table states operations acts (untouched g))
+          (after (entryOf table states) (loomsOf c) (groupRules g) machineActs (opening (c .start)))
+      pictured = along acts .pictured
