@@ -7,7 +7,13 @@ pub mod Pictured
 pub mod PicturedLaws
 pub mod RendersLaws
 pub mod Processes
-pub mod NewlyOpened
-pub mod NewlyOpenedLaws
 pub mod Steps
 pub mod StepsLaws
+pub mod NewlyOpened
+pub mod NewlyOpenedLaws
+pub mod OpenedLaws
+pub mod AlwaysFits
+pub mod DemandThree
+pub mod SixStepsOfGroup
+pub mod FigureOfGroup
+pub mod Examples
