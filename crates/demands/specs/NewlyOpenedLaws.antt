@@ -86,9 +86,9 @@ module _ {table : List ℕ} {states operations : ℕ} {c : Certificate} {numbers
       HasAnswered k (historyAfter table states operations acts (historyAfter table states operations before (untouched g)))
   answered-by-six before acts k here free six =
       let done = machine.six-steps next (loomsOf c) (groupRules g) (machineActs acts) came k here (unrestarted-numbered (numberOf numbers) (loomsOf c) k acts free)
-          (rw (steps-numbered (numberOf numbers) (loomsOf c) k acts) six) in
+      (rw (steps-numbered (numberOf numbers) (loomsOf c) k acts) six) in
       let spoken = spoken-after next (loomsOf c) (groupRules g) (machineActs acts) came
-          (spoken-after next (loomsOf c) (groupRules g) (machineActs before) (opening (c .start)) (λ j. tt)) k in
+      (spoken-after next (loomsOf c) (groupRules g) (machineActs before) (opening (c .start)) (λ j. tt)) k in
       let said = rw (done .1) at spoken in
       record {
         side = done .0;
@@ -151,8 +151,8 @@ module _ {table : List ℕ} {states operations : ℕ} {c : Certificate} {numbers
       matched =
           subst
           (λ q. Matched (groupRules g .leading) (settingIn table states (loomsOf c) g)
-              (after (entryOf table states) (loomsOf c) (groupRules g) machineActs (opening q))
-              (ran (settingIn table states (loomsOf c) g) machineActs (initial (settingIn table states (loomsOf c) g))))
+          (after (entryOf table states) (loomsOf c) (groupRules g) machineActs (opening q))
+          (ran (settingIn table states (loomsOf c) g) machineActs (initial (settingIn table states (loomsOf c) g))))
           (rules-render .the-start)
           (figure-two (entryOf table states) (loomsOf c) (groupRules g) machineActs filled-acts)
 

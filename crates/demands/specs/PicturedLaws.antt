@@ -53,7 +53,7 @@ count-of-seats s [] ls room sides within = refl
 count-of-seats s (seat ∷ looms) [] room sides within = absurd (not-suc-le-zero room)
 count-of-seats s (seat ∷ looms) (l ∷ ls) room sides within =
     let first : pick (sameSide (l .side) s) 1 0 ≡ one (eqb (seat .side) (sideNumber s)) =
-        ap (λ t. pick (sameSide t s) 1 0) (sides 0 (zero-lt-suc (length looms))) ∙ one-of-side (seat .side) s (within 0) in
+    ap (λ t. pick (sameSide t s) 1 0) (sides 0 (zero-lt-suc (length looms))) ∙ one-of-side (seat .side) s (within 0) in
     let rest = count-of-seats s looms ls (le-of-suc-le-suc room) (λ k here. sides (suc k) (suc-le-suc here)) (λ k. within (suc k)) in
     rw (first, rest) refl
 
