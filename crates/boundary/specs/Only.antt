@@ -9,7 +9,15 @@ use Rattle.sets.specs.Only.{only-has, only-union, only-common, only-insert, onl
 use Rattle.cell.specs.Table.{formOf, nextOf}
 use Rattle.cell.specs.Catalogue.{Catalogued}
 use Rattle.cell.specs.Only.{only-catalogue}
+use lib.ListN.{length}
+use Rattle.recording.specs.declared.Certificate.{Certificate}
+use Rattle.recording.specs.Check.{checkOf, areaOf}
+use Rattle.group.specs.declared.Opened.{Opened}
+use Rattle.group.specs.declared.Stepped.{Stepped}
+use Rattle.group.specs.declared.Restarted.{Restarted}
 use Rattle.boundary.specs.Numbers.{movedNumber}
+use Rattle.boundary.specs.Certificates.{certificateFrom, withChecked}
+use Rattle.boundary.specs.Groups.{Opens, Steps, Restarts}
 
 pub only-linuktabay-has : (set state : ℕ) (r s : Bool) → r ≡ hasOf set state → s ≡ hasOf set state → r ≡ s
 only-linuktabay-has = only-has
@@ -43,3 +51,33 @@ only-linuktabay-form-place table states operations r s p q = p ∙ sym q
 pub only-linuktabay-next : (table : List ℕ) (states o q r s : ℕ)
     → r ≡ movedNumber (nextOf table states o q) → s ≡ movedNumber (nextOf table states o q) → r ≡ s
 only-linuktabay-next table states o q r s p t = p ∙ sym t
+
+pub only-certificate-from : (start count : ℕ) (ns : List ℕ) (r s : Certificate)
+    → r ≡ certificateFrom start count ns → s ≡ certificateFrom start count ns → r ≡ s
+only-certificate-from start count ns r s p q = p ∙ sym q
+
+-- The four numbers and the area.
+pub only-linuktabay-check : (table : List ℕ) (states operations : ℕ) (c : Certificate) (out area x y a b : List ℕ)
+    → (x ≡ withChecked out (checkOf table states operations c (length area))) × (a ≡ areaOf table states operations c area)
+    → (y ≡ withChecked out (checkOf table states operations c (length area))) × (b ≡ areaOf table states operations c area)
+    → (x ≡ y) × (a ≡ b)
+only-linuktabay-check table states operations c out area x y a b p q = (p .0 ∙ sym (q .0), p .1 ∙ sym (q .1))
+
+-- The code, the group's numbers and, where there is one, the area or what was said.
+pub only-linuktabay-open : (answer : Opened) (words group : List ℕ) (r s : ℕ) (g h a b : List ℕ)
+    → Opens answer words group r g a → Opens answer words group s h b → (r ≡ s) × (g ≡ h) × (a ≡ b)
+only-linuktabay-open answer words group r s g h a b p q =
+    (p .its-code ∙ sym (q .its-code), p .its-group ∙ sym (q .its-group), p .its-area ∙ sym (q .its-area))
+
+pub only-linuktabay-step : (answer : Stepped) (group out : List ℕ) (r s : ℕ) (g h x y : List ℕ)
+    → Steps answer group out r g x → Steps answer group out s h y → (r ≡ s) × (g ≡ h) × (x ≡ y)
+only-linuktabay-step answer group out r s g h x y p q =
+    (p .its-code ∙ sym (q .its-code), p .its-group ∙ sym (q .its-group), p .its-word ∙ sym (q .its-word))
+
+pub only-linuktabay-restart : (answer : Restarted) (group : List ℕ) (r s : ℕ) (g h : List ℕ)
+    → Restarts answer group r g → Restarts answer group s h → (r ≡ s) × (g ≡ h)
+only-linuktabay-restart answer group r s g h p q = (p .its-code ∙ sym (q .its-code), p .its-group ∙ sym (q .its-group))
+
+pub only-linuktabay-restart-all : (answer : Restarted) (group : List ℕ) (r s : ℕ) (g h : List ℕ)
+    → Restarts answer group r g → Restarts answer group s h → (r ≡ s) × (g ≡ h)
+only-linuktabay-restart-all = only-linuktabay-restart
