@@ -1,5 +1,6 @@
 pub mod Accepted
 pub mod AdmittedLaws
+pub mod CatalogueAccepted
 pub mod CatalogueOrders
 pub mod Check
 pub mod CheckLaws
