@@ -1,12 +1,11 @@
 -- Demand 2, its first half: past 2 to 9 and 40 the check accepts exactly the recording certificates, and 20, 21 and 22 each say which
 -- clause of source document 003's definition fails, and where.
 -- Assumes nothing.
-use Prim.Native.Nat.{ℕ, _^_, _≤_, _<_}
+use Prim.Native.Nat.{ℕ, _^_, _<_}
 use mathlib.Core.Path.{_≡_, sym, ap, subst, _∙_}
 use mathlib.Core.Logic.{_↔_, _⊎_, inl, inr, ⊎-elim}
 use mathlib.Core.List.{List}
 use native.Mathlib.Nat.{lt-of-lt-of-le}
-use native.Mathlib.Omega.{arith}
 use lib.Bits.{bitAnd}
 use lib.Pow.{pow-mono}
 use Rattle.sets.specs.Sets.{bit, sizeOf, lowestOf, wordBits}

@@ -4,7 +4,7 @@ use Prim.Native.Nat.{ℕ, zero, suc, _≤_, _<_}
 use mathlib.Core.Path.{_≡_, refl, sym, ap, subst, _∙_}
 use mathlib.Core.Bool.{Bool, true, false}
 use mathlib.Core.List.{List, [], _∷_}
-use native.Mathlib.Decide.{decLe, decLt, ℕ-discrete}
+use native.Mathlib.Decide.{decLe, ℕ-discrete}
 use native.Mathlib.Nat.{le-of-suc-le-suc, not-suc-le-zero}
 use native.Mathlib.Omega.{arith}
 use borrow.Author.Tests.{leb-false, ltb-false}
@@ -18,7 +18,7 @@ use Rattle.recording.specs.declared.Certificate.{Certificate}
 use Rattle.recording.specs.declared.Seat.{Seat}
 use Rattle.recording.specs.Check.{loomsOf, misfitOf, firstMisfit, roomFor, loomsFault, faultOf}
 use Rattle.recording.specs.CheckLaws.{fault-few, fault-many, fault-misfit, fault-no-A, fault-no-B, fault-room, fault-form, fault-start, fault-looms}
-use Rattle.recording.specs.Fitting.{Steps, Fitting}
+use Rattle.recording.specs.Fitting.{Fitting}
 use Rattle.recording.specs.Recording.{sideAt, operationAt, sideCount}
 use Rattle.recording.specs.WordsLaws.{Closed}
 

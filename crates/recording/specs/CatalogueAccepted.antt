@@ -1,12 +1,13 @@
 -- Document 01, "The catalogue cell": "It is accepted for every n, with n states in the set of A and n − 1 in that of B."
 -- Assumes nothing.
-use Prim.Native.Nat.{ℕ, zero, suc, _+_, _-_, _*_, _^_, _≤_, _<_, min}
+use Prim.Native.Nat.{ℕ, zero, suc, _+_, _-_, _*_, _≤_, _<_, min}
 use mathlib.Core.Path.{_≡_, refl, sym, ap, ap₂, subst, transport, _∙_}
-use mathlib.Core.Logic.{_↔_, _⊎_, inl, inr}
-use mathlib.Core.List.{List, [], _∷_}
+use mathlib.Core.Logic.{_↔_, inl, inr}
+use mathlib.Core.List.{List}
 use native.Mathlib.Decide.{decLe, decLt}
 use native.Mathlib.Omega.{arith}
-use lib.ListN.{replicate}
+use lib.ListN.{length, replicate, length-replicate}
+use lib.Seq.{take-at}
 use Rattle.sets.specs.Sets.{bit, members, sizeOf, wordBits}
 use Rattle.sets.specs.MembersLaws.{bit-cases, size-more}
 use Rattle.cell.specs.declared.Formed.{Formed}
@@ -21,7 +22,8 @@ use Rattle.recording.specs.Accepted.{set-is-Q}
 use Rattle.recording.specs.CatalogueOrders.{follower, catalogueLooms, reaches-A, reaches-B, row-of-A, row-of-B}
 use Rattle.recording.specs.Check.{loomsOf, firstMisfit, roomFor, faultOf, judgement, setBy, judgedOf, sizesOf, checkOf, checked}
 use Rattle.recording.specs.CheckLaws.{fault-looms, fault-none, judged-past}
-use Rattle.recording.specs.Recording.{InSet, sideCount}
+use Rattle.recording.specs.Known.{certificateOf}
+use Rattle.recording.specs.Recording.{emptySeat, InSet, sideCount}
 use Rattle.recording.specs.VerdictLaws.{when-recorded}
 
 -- "Its certificate for n looms: start n, loom 0 on side A with operation 0, all others on side B with operation 1." Seats beyond the count
@@ -31,6 +33,18 @@ pub record CatalogueCertificate (n : ℕ) (c : Certificate) : Type 0 where
   pub count-is : c .count ≡ n
   pub looms-are : loomsOf c ≡ catalogueLooms n
 
+-- There is one.
+pub catalogue-certificate : (n : ℕ) → 2 ≤ n → CatalogueCertificate n (certificateOf n (catalogueLooms n))
+catalogue-certificate n several =
+    record {
+      start-is = refl;
+      count-is = counted;
+      looms-are = take-at (catalogueLooms n) (replicate (edition .looms - length (catalogueLooms n)) emptySeat) (length (catalogueLooms n)) refl;
+    }
+  where
+    counted : length (catalogueLooms n) ≡ n
+    counted = omega (arith, length-replicate (n - 1) follower)
+
 -- The size of a set that is an interval of states.
 interval-size : (low high w : ℕ) → ((q : ℕ) → (bit w q ≡ 1) ↔ ((low ≤ q) × (q < high))) → (k : ℕ) → sizeOf k w ≡ min k high - min k low
 unfolding sizeOf members
@@ -39,6 +53,7 @@ interval-size low high w is (suc k) = size-more k w ∙ go (decLe low k) (decLt 
   where
     out : ((low ≤ k) × (k < high) → ⊥) → bit w k ≡ 0
     out not-there = elim (bit-cases w k) [ inl none ↦ none | inr there ↦ absurd (not-there (is k .0 there)) ]
+
     go : Dec (low ≤ k) → Dec (k < high) → sizeOf k w ≡ min k high - min k low → sizeOf k w + bit w k ≡ min (suc k) high - min (suc k) low
     go (yes above) (yes below) before = omega (arith, is k .1 (above, below))
     go (yes above) (no past) before = omega (arith, out (λ there. past (there .1)))
@@ -96,16 +111,18 @@ module _ (n : ℕ) (several : 2 ≤ n) (few : n ≤ edition .looms) (c : Certifi
   rows-of-A : (q : ℕ) → (bit setA q ≡ 1) ↔ ((0 ≤ q) × (q < n))
   unfolding setA
   rows-of-A q =
-      let Q = set-is-Q (tableOf n) (2 * n) 2 c room past-code 0 q in
-      (λ has. (omega arith, reaches-A n several q (transport (of-these 0 q) (Q .0 has))),
-      λ within. Q .1 (transport (sym (of-these 0 q)) (row-of-A n several q (within .1))))
+      let Q = set-is-Q (tableOf n) (2 * n) 2 c room past-code 0 q in (
+        λ has. (omega arith, reaches-A n several q (transport (of-these 0 q) (Q .0 has))),
+        λ within. Q .1 (transport (sym (of-these 0 q)) (row-of-A n several q (within .1))),
+      )
 
   rows-of-B : (q : ℕ) → (bit setB q ≡ 1) ↔ ((n + 1 ≤ q) × (q < 2 * n))
   unfolding setB
   rows-of-B q =
-      let Q = set-is-Q (tableOf n) (2 * n) 2 c room past-code 1 q in
-      (λ has. let there = reaches-B n several q (transport (of-these 1 q) (Q .0 has)) in (omega (arith, there .0), there .1),
-      λ within. Q .1 (transport (sym (of-these 1 q)) (row-of-B n several q (omega (arith, within .0)) (within .1))))
+      let Q = set-is-Q (tableOf n) (2 * n) 2 c room past-code 1 q in (
+        λ has. let there = reaches-B n several q (transport (of-these 1 q) (Q .0 has)) in (omega (arith, there .0), there .1),
+        λ within. Q .1 (transport (sym (of-these 1 q)) (row-of-B n several q (omega (arith, within .0)) (within .1))),
+      )
 
   -- ---- the answer
   recorded : judgedOf (tableOf n) (2 * n) 2 c room ≡ judgement 0 0 setA setB

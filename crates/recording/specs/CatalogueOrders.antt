@@ -3,20 +3,19 @@
 -- Assumes nothing.
 use Prim.Native.Nat.{ℕ, zero, suc, _+_, _-_, _*_, _≤_, _<_}
 use mathlib.Core.Path.{_≡_, refl, sym, ap, subst, _∙_}
-use mathlib.Core.Bool.{Bool, true, false}
 use mathlib.Core.List.{List, [], _∷_}
-use native.Mathlib.Decide.{decLe, decLt, ℕ-discrete}
-use native.Mathlib.Nat.{le-of-suc-le-suc, not-suc-le-zero}
+use native.Mathlib.Decide.{decLe, ℕ-discrete}
+use native.Mathlib.Nat.{not-suc-le-zero}
 use native.Mathlib.Omega.{arith}
 use borrow.Author.Tests.{eq-eqb, ne-eqb}
-use lib.Dec.{eqb, eqb·zero-suc, eqb·suc-zero, eqb·suc-suc}
+use lib.Dec.{eqb, eqb·zero-suc}
 use lib.ListN.{length, getD, replicate, length-replicate, getD-replicate}
-use Rattle.cell.specs.Catalogue.{tableOf, afterZero, afterOne}
+use Rattle.cell.specs.Catalogue.{tableOf, afterZero}
 use Rattle.cell.specs.CatalogueLaws.{zero-from-start, zero-of-number, one-of-number, entry-of-zero, entry-of-one}
 use Rattle.cell.specs.Table.{entryOf}
 use Rattle.recording.specs.declared.Seat.{Seat}
 use Rattle.recording.specs.OrdersLaws.{one-small}
-use Rattle.recording.specs.Recording.{emptySeat, sideAt, operationAt, one, times, FirstIs, Order, reached, InSet}
+use Rattle.recording.specs.Recording.{emptySeat, sideAt, operationAt, one, times, Order, reached, InSet}
 
 -- "Loom 0 on side A with operation 0, all others on side B with operation 1."
 abbrev pub leader : Seat
@@ -216,7 +215,7 @@ module _ (n : ℕ) (several : 2 ≤ n) where
           let many : suc (others us) ≤ n - 1 = others-at-most n (suc u ∷ us) (omega arith) below (order .each-once) in
           let end : to (n + 1) us ≡ n + (1 + others us) = run-on us 1 (below-rest n (suc u) us below) (omega arith) (omega arith) in
           let start : to n (suc u ∷ us) ≡ to (n + 1) us =
-                ap (λ (p : ℕ). to p us) (step-up u n (n + 1) (below-first n (suc u) us below) (omega arith) (omega arith)) in
+          ap (λ (p : ℕ). to p us) (step-up u n (n + 1) (below-first n (suc u) us below) (omega arith) (omega arith)) in
           omega arith
 
   -- ---- and the other way: an order for each of these states
@@ -226,24 +225,26 @@ module _ (n : ℕ) (several : 2 ≤ n) where
       record {
         looms-of-it = λ i past. in-turn-after j (suc k) i (omega (arith, looms-counted));
         each-once = in-turn-once j (suc k);
-        first-of-X = side
+        first-of-X = side;
       }
 
   pub row-of-A : (q : ℕ) → q < n → InSet (entryOf (tableOf n) (2 * n)) (catalogueLooms n) n 0 q
   unfolding to inTurn
-  row-of-A q within =
-      (inTurn 0 (suc q),
-      order-in-turn 0 0 q (omega arith) refl,
-      ap (λ (p : ℕ). to p (inTurn 1 q)) step-zero-start
-      ∙ run-up (inTurn 1 q) 0 (λ i past. in-turn-after 1 q i (omega arith)) (in-turn-before 1 q 0 (omega arith)) (omega (arith, others-in-turn 0 q))
-      ∙ omega (arith, others-in-turn 0 q))
+  row-of-A q within = (
+    inTurn 0 (suc q),
+    order-in-turn 0 0 q (omega arith) refl,
+    ap (λ (p : ℕ). to p (inTurn 1 q)) step-zero-start
+        ∙ run-up (inTurn 1 q) 0 (λ i past. in-turn-after 1 q i (omega arith)) (in-turn-before 1 q 0 (omega arith)) (omega (arith, others-in-turn 0 q))
+        ∙ omega (arith, others-in-turn 0 q),
+  )
 
   pub row-of-B : (q : ℕ) → n < q → q < 2 * n → InSet (entryOf (tableOf n) (2 * n)) (catalogueLooms n) n 1 q
   unfolding to inTurn
   row-of-B q past within =
-      let k : ℕ = q - n - 1 in
-      (inTurn 1 (suc k),
-      order-in-turn 1 1 k (omega arith) (ap (λ (l : Seat). l .side) (follows 0 several)),
-      ap (λ (p : ℕ). to p (inTurn 2 k)) (step-up 0 n (n + 1) several (omega arith) (omega arith))
-      ∙ run-on (inTurn 2 k) 1 (λ i past. in-turn-after 2 k i (omega arith)) (omega arith) (omega (arith, others-in-turn 1 k))
-      ∙ omega (arith, others-in-turn 1 k))
+      let k : ℕ = q - n - 1 in (
+        inTurn 1 (suc k),
+        order-in-turn 1 1 k (omega arith) (ap (λ (l : Seat). l .side) (follows 0 several)),
+        ap (λ (p : ℕ). to p (inTurn 2 k)) (step-up 0 n (n + 1) several (omega arith) (omega arith))
+            ∙ run-on (inTurn 2 k) 1 (λ i past. in-turn-after 2 k i (omega arith)) (omega arith) (omega (arith, others-in-turn 1 k))
+            ∙ omega (arith, others-in-turn 1 k),
+      )
