@@ -18,7 +18,7 @@ use Rattle.cell.specs.Table.{entryOf, formed}
 use Rattle.cell.specs.TableLaws.{form-of-good}
 use Rattle.recording.specs.declared.Certificate.{Certificate}
 use Rattle.recording.specs.declared.Seat.{Seat}
-use Rattle.recording.specs.Accepted.{set-is-Q}
+use Rattle.recording.specs.AcceptedLaws.{set-is-Q}
 use Rattle.recording.specs.CatalogueOrders.{follower, catalogueLooms, reaches-A, reaches-B, row-of-A, row-of-B}
 use Rattle.recording.specs.Check.{loomsOf, firstMisfit, roomFor, faultOf, judgement, setBy, judgedOf, sizesOf, checkOf, checked}
 use Rattle.recording.specs.CheckLaws.{fault-looms, fault-none, judged-past}

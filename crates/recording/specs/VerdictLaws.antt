@@ -96,8 +96,12 @@ pub data Verdict (start ofA ofB a b : ℕ) : ℕ → Type 0 where
   back-to-B : Apart a b → Away start a ofB → Back start b ofA → Verdict start ofA ofB a b 22
   recorded : Apart a b → Away start a ofB → Away start b ofA → Verdict start ofA ofB a b 0
 
-abbrev codeOf : Judged → ℕ
+-- The code and the place of an answer.
+abbrev pub codeOf : Judged → ℕ
 codeOf j = j .code
+
+abbrev pub placeOf : Judged → ℕ
+placeOf j = j .place
 
 module _ (start ofA ofB a b : ℕ) where
   pub when-shared : Shared a b → verdictOf start ofA ofB a b ≡ judgement 20 (lowestOf wordBits (bitAnd a b)) a b
