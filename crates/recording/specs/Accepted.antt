@@ -1,180 +1,46 @@
 -- Demand 2, its first half: past 2 to 9 and 40 the check accepts exactly the recording certificates, and 20, 21 and 22 each say which
 -- clause of source document 003's definition fails, and where.
 -- Assumes nothing.
-use Prim.Native.Nat.{ℕ, _^_, _≤_, _<_}
-use mathlib.Core.Path.{_≡_, sym, ap, subst, _∙_}
-use mathlib.Core.Logic.{_↔_, _⊎_, inl, inr, ⊎-elim}
+use Prim.Native.Nat.{ℕ}
+use mathlib.Core.Path.{_≡_}
+use mathlib.Core.Logic.{_↔_}
 use mathlib.Core.List.{List}
-use native.Mathlib.Nat.{lt-of-lt-of-le}
-use native.Mathlib.Omega.{arith}
-use lib.Bits.{bitAnd}
-use lib.Pow.{pow-mono}
-use Rattle.sets.specs.Sets.{bit, sizeOf, lowestOf, wordBits}
-use Rattle.cell.specs.Table.{entryOf}
+use Rattle.sets.specs.Sets.{Member, sizeOf, wordBits}
 use Rattle.recording.specs.declared.Certificate.{Certificate}
-use Rattle.recording.specs.declared.Judged.{Judged}
-use Rattle.recording.specs.AdmittedLaws.{Admitted, admitted, closed}
-use Rattle.recording.specs.Check.{loomsOf, faultOf, setBy, verdictOf, judgedOf, checkOf}
-use Rattle.recording.specs.CheckLaws.{judged-past}
-use Rattle.recording.specs.Recording.{InSet, Recording, sideCount}
-use Rattle.recording.specs.SetLaws.{set-members, set-below}
-use Rattle.recording.specs.VerdictLaws.{Verdict, Apart, Away, verdict-gives, verdict-says, says-shared, says-back-to-A, says-back-to-B, says-recorded, when-shared, when-back-to-A, when-back-to-B, when-recorded, lowest-shared}
+use Rattle.recording.specs.declared.Checked.{Checked}
+use Rattle.recording.specs.AcceptedLaws as laws
+use Rattle.recording.specs.Check.{faultOf, setBy, checkOf}
+use Rattle.recording.specs.Clauses.{InSetOf, SharedFirst, NoneShared, ReturnsTo, RecordingOf}
 
--- Q_X, by a certificate over a table.
-abbrev pub InSetOf : List ℕ → ℕ → Certificate → ℕ → ℕ → Type 0
-InSetOf table states c X q = InSet (entryOf table states) (loomsOf c) (c .start) X q
-
--- "No state is in both sets" fails, and where it fails first.
-pub record SharedFirst (table : List ℕ) (states : ℕ) (c : Certificate) (q : ℕ) : Type 0 where
-  pub in-A : InSetOf table states c 0 q
-  pub in-B : InSetOf table states c 1 q
-  pub none-below : (p : ℕ) → p < q → InSetOf table states c 0 p → InSetOf table states c 1 p → ⊥
-
--- "No state is in both sets" holds.
-abbrev pub NoneShared : List ℕ → ℕ → Certificate → Type 0
-NoneShared table states c = (q : ℕ) → InSetOf table states c 0 q → InSetOf table states c 1 q → ⊥
-
--- "The start isn't in the set of [X], or [the other side Y] has one loom" fails.
-abbrev pub ReturnsTo : List ℕ → ℕ → Certificate → ℕ → ℕ → Type 0
-ReturnsTo table states c X Y = InSetOf table states c X (c .start) × (sideCount Y (loomsOf c) ≡ 1 → ⊥)
-
-abbrev codeOf : Judged → ℕ
-codeOf j = j .code
-
-abbrev placeOf : Judged → ℕ
-placeOf j = j .place
-
-module _ (table : List ℕ) (states operations : ℕ) (c : Certificate) (room : ℕ) (past : faultOf table states operations c room .code ≡ 0) where
-  -- ---- the sets
-  ok : Admitted table states operations c room
-  ok = admitted table states operations c room past
-
-  -- The set of X that the check makes is Q_X.
-  pub set-is-Q : (X q : ℕ) → (bit (setBy table states c X) q ≡ 1) ↔ InSetOf table states c X q
-  set-is-Q X = set-members (entryOf table states) (loomsOf c) states (c .start) X (closed table states operations c room ok)
-
-  set-small : (X : ℕ) → setBy table states c X < 2 ^ wordBits
-  set-small X =
-      lt-of-lt-of-le
-      (set-below (entryOf table states) (loomsOf c) states (c .start) X (closed table states operations c room ok))
-      (pow-mono (ok .form .few-states))
-
-  ofA : ℕ
-  ofA = sideCount 0 (loomsOf c)
-
-  ofB : ℕ
-  ofB = sideCount 1 (loomsOf c)
-
-  setA : ℕ
-  setA = setBy table states c 0
-
-  setB : ℕ
-  setB = setBy table states c 1
-
-  verdict : judgedOf table states operations c room ≡ verdictOf (c .start) ofA ofB setA setB
-  unfolding ofA ofB setA setB
-  verdict = judged-past table states operations c room past
-
-  -- The sets are given whatever the code, and the sizes are those of Q_A and of Q_B.
-  pub sets-given : (judgedOf table states operations c room .a ≡ setBy table states c 0) × (judgedOf table states operations c room .b ≡ setBy table states c 1)
-  unfolding setA setB
-  sets-given =
-      let gives = verdict-gives (c .start) ofA ofB setA setB in
-      (ap (λ (j : Judged). j .a) verdict ∙ gives .0, ap (λ (j : Judged). j .b) verdict ∙ gives .1)
-
-  pub sizes-given : (checkOf table states operations c room .a ≡ sizeOf wordBits (setBy table states c 0))
-      × (checkOf table states operations c room .b ≡ sizeOf wordBits (setBy table states c 1))
-  unfolding checkOf
-  sizes-given = (ap (sizeOf wordBits) (sets-given .0), ap (sizeOf wordBits) (sets-given .1))
-
-  -- ---- the codes
-  says : Verdict (c .start) ofA ofB setA setB (judgedOf table states operations c room .code)
-  unfolding setA
-  says = subst (Verdict (c .start) ofA ofB setA setB) (ap codeOf (sym verdict)) (verdict-says (c .start) ofA ofB setA setB (set-small 0))
-
-  apart : Apart setA setB ↔ NoneShared table states c
-  unfolding setA setB
-  apart = (
-    λ none q inA inB. none q (set-is-Q 0 q .1 inA) (set-is-Q 1 q .1 inB),
-    λ none q inA inB. none q (set-is-Q 0 q .0 inA) (set-is-Q 1 q .0 inB),
-  )
-
-  -- 20 exactly when the first clause fails; its place is the lowest state that both sets have.
-  pub shared-refused : (checkOf table states operations c room .code ≡ 20) ↔ ((q : ℕ) × InSetOf table states c 0 q × InSetOf table states c 1 q)
-  unfolding checkOf setA setB
-  shared-refused = (
-    λ code. let shared = says-shared says code in (shared .0, set-is-Q 0 (shared .0) .0 (shared .1), set-is-Q 1 (shared .0) .0 (shared .2)),
-    λ shared. ap codeOf verdict ∙ ap codeOf (when-shared (c .start) ofA ofB setA setB (shared .0, set-is-Q 0 (shared .0) .1 (shared .1), set-is-Q 1 (shared .0) .1 (shared .2))),
-  )
-
-  pub shared-place : checkOf table states operations c room .code ≡ 20 → SharedFirst table states c (checkOf table states operations c room .place)
-  unfolding checkOf setA setB
-  shared-place code =
-      let shared = says-shared says code in
-      let least = lowest-shared (c .start) ofA ofB setA setB (set-small 0) shared in
-      let place : judgedOf table states operations c room .place ≡ lowestOf wordBits (bitAnd setA setB) =
-      ap placeOf (verdict ∙ when-shared (c .start) ofA ofB setA setB shared) in
-      subst (SharedFirst table states c) (sym place)
-      (record {
-        in-A = set-is-Q 0 (lowestOf wordBits (bitAnd setA setB)) .0 (least .0);
-        in-B = set-is-Q 1 (lowestOf wordBits (bitAnd setA setB)) .0 (least .1);
-        none-below = λ p below inA inB. least .2 p below (set-is-Q 0 p .1 inA) (set-is-Q 1 p .1 inB);
-      })
-
-  -- 21 exactly when the first clause holds and the second fails; its place is the start.
-  pub returns-to-A : (checkOf table states operations c room .code ≡ 21) ↔ (NoneShared table states c × ReturnsTo table states c 0 1)
-  unfolding checkOf ofB setA setB
-  returns-to-A = (
-    λ code. let found = says-back-to-A says code in (apart .0 (found .0), (set-is-Q 0 (c .start) .0 (found .1 .0), found .1 .1)),
-    λ found. ap codeOf verdict ∙ ap codeOf (when-back-to-A (c .start) ofA ofB setA setB (apart .1 (found .0)) (set-is-Q 0 (c .start) .1 (found .1 .0), found .1 .1)),
-  )
-
-  pub returns-to-A-place : checkOf table states operations c room .code ≡ 21 → checkOf table states operations c room .place ≡ c .start
-  unfolding checkOf
-  returns-to-A-place code =
-      let found = says-back-to-A says code in ap placeOf (verdict ∙ when-back-to-A (c .start) ofA ofB setA setB (found .0) (found .1))
-
-  -- 22 exactly when the first clause holds and the third fails; its place is the start.
-  pub returns-to-B : (checkOf table states operations c room .code ≡ 22) ↔ (NoneShared table states c × ReturnsTo table states c 1 0)
-  unfolding checkOf ofA setA setB
-  returns-to-B = (
-    λ code. let found = says-back-to-B says code in (apart .0 (found .0), (set-is-Q 1 (c .start) .0 (found .1 .0), found .1 .1)),
-    λ found. ap codeOf verdict
-        ∙ ap codeOf (when-back-to-B (c .start) ofA ofB setA setB (apart .1 (found .0))
-        (inl (λ inA. found .0 (c .start) (set-is-Q 0 (c .start) .0 inA) (found .1 .0)))
-        (set-is-Q 1 (c .start) .1 (found .1 .0), found .1 .1)),
-  )
-
-  pub returns-to-B-place : checkOf table states operations c room .code ≡ 22 → checkOf table states operations c room .place ≡ c .start
-  unfolding checkOf
-  returns-to-B-place code =
-      let found = says-back-to-B says code in
-      ap placeOf (verdict ∙ when-back-to-B (c .start) ofA ofB setA setB (found .0) (inl (λ inA. found .0 (c .start) inA (found .1 .0))) (found .1))
-
+-- What an answer of the check says of a certificate over a table.
+pub record Says (table : List ℕ) (states : ℕ) (c : Certificate) (answer : Checked) : Type 0 where
   -- Accepted exactly when recording.
-  pub accepted : (checkOf table states operations c room .code ≡ 0) ↔ Recording (entryOf table states) (loomsOf c) (c .start)
-  unfolding checkOf ofA ofB setA setB
-  accepted = (into, back)
-    where
-      clause : (X others : ℕ) → Away (c .start) (setBy table states c X) others ↔ ((InSetOf table states c X (c .start) → ⊥) ⊎ (others ≡ 1))
-      clause X others = (
-        ⊎-elim (λ out. inl (λ there. out (set-is-Q X (c .start) .1 there))) inr,
-        ⊎-elim (λ out. inl (λ there. out (set-is-Q X (c .start) .0 there))) inr,
-      )
+  pub accepted : (answer .code ≡ 0) ↔ RecordingOf table states c
+  -- 20 exactly when a state is in both sets; the place is the lowest one.
+  pub shared : (answer .code ≡ 20) ↔ ((q : ℕ) × InSetOf table states c 0 q × InSetOf table states c 1 q)
+  pub shared-place : answer .code ≡ 20 → SharedFirst table states c (answer .place)
+  -- 21 exactly when no state is, and the start is in the set of A while B has not one loom; 22 with the sides exchanged.
+  pub returns-to-A : (answer .code ≡ 21) ↔ (NoneShared table states c × ReturnsTo table states c 0 1)
+  pub returns-to-A-place : answer .code ≡ 21 → answer .place ≡ c .start
+  pub returns-to-B : (answer .code ≡ 22) ↔ (NoneShared table states c × ReturnsTo table states c 1 0)
+  pub returns-to-B-place : answer .code ≡ 22 → answer .place ≡ c .start
+  -- The sizes are those of the two sets, whose members are the states of Q_A and of Q_B.
+  pub size-of-A : answer .a ≡ sizeOf wordBits (setBy table states c 0)
+  pub size-of-B : answer .b ≡ sizeOf wordBits (setBy table states c 1)
+  pub members : (X q : ℕ) → Member (setBy table states c X) q ↔ InSetOf table states c X q
 
-      into : judgedOf table states operations c room .code ≡ 0 → Recording (entryOf table states) (loomsOf c) (c .start)
-      into code =
-          let found = says-recorded says code in
-          record {
-            some-of-A = ok .some-A;
-            some-of-B = ok .some-B;
-            apart = apart .0 (found .0);
-            start-and-A = clause 0 (sideCount 1 (loomsOf c)) .0 (found .1);
-            start-and-B = clause 1 (sideCount 0 (loomsOf c)) .0 (found .2);
-          }
-
-      back : Recording (entryOf table states) (loomsOf c) (c .start) → judgedOf table states operations c room .code ≡ 0
-      back r =
-          ap codeOf verdict
-          ∙ ap codeOf (when-recorded (c .start) ofA ofB setA setB (apart .1 (r .apart)) (clause 0 (sideCount 1 (loomsOf c)) .1 (r .start-and-A))
-          (clause 1 (sideCount 0 (loomsOf c)) .1 (r .start-and-B)))
+pub check-says : (table : List ℕ) (states operations : ℕ) (c : Certificate) (room : ℕ)
+    → faultOf table states operations c room .code ≡ 0 → Says table states c (checkOf table states operations c room)
+check-says table states operations c room past =
+    record {
+      accepted = laws.accepted table states operations c room past;
+      shared = laws.shared-refused table states operations c room past;
+      shared-place = laws.shared-place table states operations c room past;
+      returns-to-A = laws.returns-to-A table states operations c room past;
+      returns-to-A-place = laws.returns-to-A-place table states operations c room past;
+      returns-to-B = laws.returns-to-B table states operations c room past;
+      returns-to-B-place = laws.returns-to-B-place table states operations c room past;
+      size-of-A = laws.sizes-given table states operations c room past .0;
+      size-of-B = laws.sizes-given table states operations c room past .1;
+      members = laws.set-is-Q table states operations c room past;
+    }

@@ -4,7 +4,7 @@ use Prim.Native.Nat.{ℕ, zero, suc, _≤_, _<_}
 use mathlib.Core.Path.{_≡_, refl, sym, ap, subst, _∙_}
 use mathlib.Core.Bool.{Bool, true, false}
 use mathlib.Core.List.{List, [], _∷_}
-use native.Mathlib.Decide.{decLe, decLt, ℕ-discrete}
+use native.Mathlib.Decide.{decLe, ℕ-discrete}
 use native.Mathlib.Nat.{le-of-suc-le-suc, not-suc-le-zero}
 use native.Mathlib.Omega.{arith}
 use borrow.Author.Tests.{leb-false, ltb-false}
@@ -18,7 +18,7 @@ use Rattle.recording.specs.declared.Certificate.{Certificate}
 use Rattle.recording.specs.declared.Seat.{Seat}
 use Rattle.recording.specs.Check.{loomsOf, misfitOf, firstMisfit, roomFor, loomsFault, faultOf}
 use Rattle.recording.specs.CheckLaws.{fault-few, fault-many, fault-misfit, fault-no-A, fault-no-B, fault-room, fault-form, fault-start, fault-looms}
-use Rattle.recording.specs.Fitting.{Steps, Fitting}
+use Rattle.recording.specs.Fitting.{Fitting}
 use Rattle.recording.specs.Recording.{sideAt, operationAt, sideCount}
 use Rattle.recording.specs.WordsLaws.{Closed}
 
@@ -60,8 +60,8 @@ pub record Admitted (table : List ℕ) (states operations : ℕ) (c : Certificat
   pub some-B : 1 ≤ sideCount 1 (loomsOf c)
   pub enough : roomFor (c .count) ≤ room
 
-abbrev codeOf : Formed → ℕ
-codeOf f = f .code
+abbrev faultCode : Formed → ℕ
+faultCode f = f .code
 
 module _ (table : List ℕ) (states operations : ℕ) (c : Certificate) (room : ℕ) where
   -- code 0, and what one of the refusals is: a contradiction where that refusal's code is not 0
@@ -81,7 +81,7 @@ module _ (table : List ℕ) (states operations : ℕ) (c : Certificate) (room : 
     where
       -- a refusal with a code above 0
       not-refused : (code place : ℕ) → 1 ≤ code → loomsFault operations c room ≡ formed code place → ⊥
-      not-refused code place above e = let same : loomsFault operations c room .code ≡ code = ap codeOf e in omega arith
+      not-refused code place above e = let same : loomsFault operations c room .code ≡ code = ap faultCode e in omega arith
 
       several : 2 ≤ c .count
       several = elim (decLe 2 (c .count)) [ yes h ↦ h | no h ↦ absurd (not-refused 7 0 (omega arith) (fault-few operations c room (omega arith))) ]
@@ -102,19 +102,19 @@ module _ (table : List ℕ) (states operations : ℕ) (c : Certificate) (room : 
       enough = elim (decLe (roomFor (c .count)) room) [ yes h ↦ h | no h ↦ absurd (not-refused 40 0 (omega arith) (fault-room operations c room several few fitted (λ e. omega (arith, some-A)) (λ e. omega (arith, some-B)) (omega arith))) ]
 
   pub admitted : faultOf table states operations c room .code ≡ 0 → Admitted table states operations c room
-  admitted none = looms-admitted (ap codeOf (sym (fault-looms table states operations c room form start-fits)) ∙ none) form start-fits
+  admitted none = looms-admitted (ap faultCode (sym (fault-looms table states operations c room form start-fits)) ∙ none) form start-fits
     where
       form : formOf table states operations .code ≡ 0
       form =
           elim (ℕ-discrete (formOf table states operations .code) 0) [
             | yes h ↦ h
-            | no h ↦ absurd (h (ap codeOf (sym (fault-form table states operations c room h)) ∙ none))
+            | no h ↦ absurd (h (ap faultCode (sym (fault-form table states operations c room h)) ∙ none))
           ]
 
       start-fits : c .start < states
       start-fits =
           elim (decLe states (c .start)) [
-            | yes h ↦ absurd (let same : faultOf table states operations c room .code ≡ 6 = ap codeOf (fault-start table states operations c room form h) in omega arith)
+            | yes h ↦ absurd (let same : faultOf table states operations c room .code ≡ 6 = ap faultCode (fault-start table states operations c room form h) in omega arith)
             | no h ↦ omega arith
           ]
 

@@ -1,7 +1,11 @@
 pub mod Accepted
+pub mod AcceptedLaws
 pub mod AdmittedLaws
+pub mod CatalogueAccepted
+pub mod CatalogueOrders
 pub mod Check
 pub mod CheckLaws
+pub mod Clauses
 pub mod FillLaws
 pub mod Fitting
 pub mod FittingLaws

@@ -1,22 +1,20 @@
 -- Laws of orders of looms, and of the set of the looms that stand in one.
 -- Assumes nothing.
-use Prim.Native.Nat.{ℕ, zero, suc, _+_, _-_, _*_, _/_, _%_, _^_, _≤_, _<_, max}
+use Prim.Native.Nat.{ℕ, suc, _+_, _-_, _*_, _/_, _%_, _^_, _≤_, _<_, max}
 use mathlib.Core.Path.{_≡_, refl, sym, ap, subst, _∙_}
-use mathlib.Core.Logic.{_⊎_, inl, inr, ⊎-elim}
 use mathlib.Core.Bool.{Bool, true, false}
 use mathlib.Core.List.{List, [], _∷_, _++_}
 use native.Mathlib.Decide.{decLe}
 use native.Mathlib.Nat.{mod-lt, suc-mul, sub-add-cancel, le-refl}
 use native.Mathlib.Omega.{arith}
-use borrow.Author.Tests.{eqb-true, eqb-false, eq-eqb, ne-eqb}
+use borrow.Author.Tests.{eqb-true, eqb-false}
 use lib.Bits.{bitOr, bitAnd, or-disjoint}
 use lib.Dec.{eqb}
-use lib.ListN.{length}
 use lib.Pow.{pow-pos, split, high}
 use Rattle.sets.specs.Sets.{bit}
-use Rattle.sets.specs.SetsLaws.{bit-small, bit-beyond, equal-members, below-by-members, bit-zero, bit-or, bit-and, bit-single-same, bit-single-other}
+use Rattle.sets.specs.SetsLaws.{bit-small, bit-beyond, equal-members, bit-zero, bit-or, bit-and, bit-single-same, bit-single-other}
 use Rattle.recording.specs.declared.Seat.{Seat}
-use Rattle.recording.specs.Recording.{operationAt, sideAt, one, times, FirstIs, Order, reached}
+use Rattle.recording.specs.Recording.{operationAt, one, times, FirstIs, reached}
 
 -- The digits of the set of one loom.
 pub single-digits : (j i : ℕ) → bit (2 ^ j) i ≡ one (eqb j i)

@@ -1,7 +1,7 @@
 -- Recording: source document 003, the sets Q_A and Q_B and Definition 4; document 01, "Cell and certificate".
 -- Over any list of looms, any operations and any start, so that what is proved of it holds at any limit.
 -- Assumes nothing.
-use Prim.Native.Nat.{ℕ, zero, suc, _+_, _≤_, _<_}
+use Prim.Native.Nat.{ℕ, _+_, _≤_}
 use mathlib.Core.Path.{_≡_}
 use mathlib.Core.Bool.{Bool, true, false}
 use mathlib.Core.Logic.{_⊎_}

@@ -1,23 +1,22 @@
 -- The two theorems that join the words with source document 003: what word m holds, and what the set of X holds.
 -- Assumes nothing.
 use Prim.Native.Nat.{ℕ, zero, suc, _^_, _≤_, _<_}
-use mathlib.Core.Path.{_≡_, refl, sym, ap, subst, _∙_}
+use mathlib.Core.Path.{_≡_, refl, sym, subst, _∙_}
 use mathlib.Core.Logic.{_↔_, _⊎_, inl, inr, ⊎-elim}
 use mathlib.Core.List.{List, [], _∷_, _++_}
 use native.Mathlib.Nat.{le-refl, not-suc-le-zero}
 use native.Mathlib.Omega.{arith}
 use lib.Bits.{bitOr}
 use lib.ListN.{length, getD}
-use lib.Pow.{pow-pos}
 use Rattle.sets.specs.Sets.{bit}
 use Rattle.sets.specs.MembersLaws.{bit-cases}
 use Rattle.sets.specs.SetsLaws.{bit-small, bit-beyond, below-by-members}
 use Rattle.recording.specs.declared.Seat.{Seat}
 use Rattle.recording.specs.OrdersLaws.{standing, standing-digits}
-use Rattle.recording.specs.Recording.{times, Order, reached, InSet}
+use Rattle.recording.specs.Recording.{InSet}
 use Rattle.recording.specs.UnionLaws.{in-union, union-first, union-second, empty-has-none}
 use Rattle.recording.specs.Words.{unionOf, filled, setOf}
-use Rattle.recording.specs.WordsLaws.{wordAt, length-filled, filled-at, OrderOf, ReachedBy, Closed, word-sound, word-complete, word-below}
+use Rattle.recording.specs.WordsLaws.{wordAt, length-filled, filled-at, ReachedBy, Closed, word-sound, word-complete, word-below}
 
 -- ---- the union of a list of sets
 pub union-end : (set : ℕ) (ws : List ℕ) (w : ℕ) → unionOf set (ws ++ (w ∷ [])) ≡ bitOr (unionOf set ws) w

@@ -1,13 +1,13 @@
 -- What each code of the verdict says of the two sets, both ways.
 -- Assumes nothing.
-use Prim.Native.Nat.{ℕ, _^_, _≤_, _<_}
+use Prim.Native.Nat.{ℕ, _^_, _<_}
 use mathlib.Core.Path.{_≡_, refl, sym, ap, subst, _∙_}
 use mathlib.Core.Bool.{Bool, true, false, not}
 use mathlib.Core.Logic.{_⊎_, inl, inr}
 use native.Mathlib.Decide.{ℕ-discrete, decLt}
 use native.Mathlib.Nat.{lt-of-le-of-lt}
 use native.Mathlib.Omega.{arith}
-use borrow.Author.Tests.{eqb-true, eqb-false, eq-eqb, ne-eqb}
+use borrow.Author.Tests.{eq-eqb, ne-eqb}
 use lib.Bits.{bitAnd, and-le-l}
 use lib.Dec.{eqb}
 use Rattle.sets.specs.Sets.{bit, hasOf, lowestOf, wordBits}
@@ -16,7 +16,6 @@ use Rattle.sets.specs.SetsLaws.{bit-small, bit-beyond, bit-zero, bit-and, equal
 use Rattle.recording.specs.declared.Judged.{Judged}
 use Rattle.recording.specs.Check.{judgement, pickJudged, comesBack, verdictOf}
 use Rattle.recording.specs.CheckLaws.{verdict-shared, verdict-returns-A, verdict-returns-B, verdict-accepted}
-use Rattle.recording.specs.UnionLaws.{member-below}
 
 -- ---- what the tests say
 -- A state that two sets have in common, and two sets with none.
@@ -97,8 +96,12 @@ pub data Verdict (start ofA ofB a b : ℕ) : ℕ → Type 0 where
   back-to-B : Apart a b → Away start a ofB → Back start b ofA → Verdict start ofA ofB a b 22
   recorded : Apart a b → Away start a ofB → Away start b ofA → Verdict start ofA ofB a b 0
 
-abbrev codeOf : Judged → ℕ
+-- The code and the place of an answer.
+abbrev pub codeOf : Judged → ℕ
 codeOf j = j .code
+
+abbrev pub placeOf : Judged → ℕ
+placeOf j = j .place
 
 module _ (start ofA ofB a b : ℕ) where
   pub when-shared : Shared a b → verdictOf start ofA ofB a b ≡ judgement 20 (lowestOf wordBits (bitAnd a b)) a b

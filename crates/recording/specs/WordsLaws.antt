@@ -1,16 +1,16 @@
 -- The words of the area hold what source document 003 says: bit q of word m is set exactly when some order of exactly the looms in m,
 -- a loom of X first, reaches q. So the union of the words of X is Q_X.
 -- Assumes nothing.
-use Prim.Native.Nat.{ℕ, zero, suc, _+_, _-_, _*_, _^_, _≤_, _<_, max}
+use Prim.Native.Nat.{ℕ, zero, suc, _+_, _-_, _^_, _≤_, _<_}
 use mathlib.Core.Path.{_≡_, refl, sym, ap, subst, _∙_}
 use mathlib.Core.Logic.{_⊎_, inl, inr, ⊎-elim}
 use mathlib.Core.Bool.{Bool, true, false}
 use mathlib.Core.List.{List, [], _∷_, _++_}
-use native.Mathlib.Decide.{decLe, decLt, ℕ-discrete}
-use native.Mathlib.Nat.{le-refl, not-suc-le-zero, eq-or-lt-of-le, le-of-suc-le-suc}
+use native.Mathlib.Decide.{ℕ-discrete}
+use native.Mathlib.Nat.{le-refl, not-suc-le-zero}
 use native.Mathlib.Numerals.{add-one}
 use native.Mathlib.Omega.{arith}
-use borrow.Author.Tests.{eqb-true, eqb-false, eq-eqb, ne-eqb}
+use borrow.Author.Tests.{eqb-true, eq-eqb, ne-eqb}
 use lib.Bits.{bitOr}
 use lib.Dec.{eqb}
 use lib.ListN.{length, getD, length-append, List·getD-append}
@@ -19,12 +19,12 @@ use lib.Pow.{pow-pos}
 use lib.Seq.{getD-at}
 use lib.WfN.{Nat·lt-wfRel}
 use Rattle.sets.specs.Sets.{bit, hasOf}
-use Rattle.sets.specs.SetsLaws.{bit-small, bit-beyond, equal-members, below-by-members, bit-zero, bit-or, bit-single-same, bit-single-other}
+use Rattle.sets.specs.SetsLaws.{bit-small, bit-zero, bit-single-same}
 use Rattle.recording.specs.declared.Seat.{Seat}
 use Rattle.recording.specs.UnionLaws.{in-union, union-first, union-second, in-single, empty-has-none, member-below, union-below, single-below}
-use Rattle.recording.specs.OrdersLaws.{single-digits, single-within, without, alone, times-end, reached-end, first-end, last-loom, standing, standing-digits}
-use Rattle.recording.specs.Recording.{operationAt, sideAt, one, times, FirstIs, Order, reached, InSet}
-use Rattle.recording.specs.Words.{pickSet, withIf, advanced, unionOf, firstBy, lastBy, wordFrom, oneMore, filled, setOf}
+use Rattle.recording.specs.OrdersLaws.{single-digits, single-within, without, alone, times-end, reached-end, first-end, last-loom}
+use Rattle.recording.specs.Recording.{operationAt, sideAt, one, times, FirstIs, reached}
+use Rattle.recording.specs.Words.{pickSet, withIf, advanced, firstBy, lastBy, wordFrom, filled}
 
 -- ---- a set moved by an operation
 -- q is where a member of the set, below k, moves to.

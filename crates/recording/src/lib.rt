@@ -1,11 +1,10 @@
 // A certificate, and the check that accepts it exactly when it is recording: document 01, "Cell and certificate".
 ghost use mathlib.Core.Path.{_≡_};
 ghost use mathlib.Core.List.{_++_};
-ghost use Prim.Native.Nat.{ℕ, _^_, _≤_, _<_};
+ghost use Prim.Native.Nat.{_^_, _≤_, _<_};
 ghost use lib.Bits.{bitOr};
 ghost use lib.Dec.{eqb};
 ghost use lib.ListN.{length, drop, take};
-ghost use Rattle.sets.specs.Sets.{hasOf};
 ghost use Rattle.cell.specs.Table.{entryOf};
 ghost use Rattle.cell.specs.Limits.{edition};
 ghost use Rattle.recording.specs.Recording.{one, sideCount};

@@ -1,3 +1,5 @@
+-- `recording::advance` meets its contract. The invariant: the states below q have moved.
+-- Assumes nothing.
 use Prim.Native.Nat.{ℕ, _-_, _^_, _≤_}
 use mathlib.Core.Path.{_≡_, refl, sym, ap, _∙_}
 use mathlib.Core.Logic.{⊎-elim}
@@ -9,10 +11,6 @@ use Rattle.recording.specs.Words.{advanced}
 use Rattle.recording.specs.WordsLaws.{advanced-with, advanced-past}
 use Rattle.recording.proofs.advance.Statement.{statement}
 use Rattle.recording.proofs.advance.Tie as tie
-use Rattle.recording.proofs.advance.Reads as reads
-use Rattle.recording.proofs.advance.Lts as lts
-use Rattle.recording.proofs.moved.Reads as moved-reads
-use Rattle.sets.proofs.has.Reads as has-reads
 
 abbrev Inv-loop : tie.InvT-loop
 Inv-loop table states operation set out₀ q₀ out q = (q ≤ states) × (out ≡ advanced (entryOf table states operation) set q)
@@ -20,28 +18,22 @@ Inv-loop table states operation set out₀ q₀ out q = (q ≤ states) × (out �
 abbrev μ-loop : tie.MeasureT-loop
 μ-loop table states operation set out₀ q₀ out q = states - q
 
--- src/lib.rt:303:5
 loop-holds : tie.Need-loop-holds Inv-loop μ-loop
 unfolding advanced
 loop-holds c = (search needs, refl)
 
--- src/lib.rt:304:12
 has-requires : tie.Need-has-requires Inv-loop μ-loop
 has-requires c κs = search needs
 
--- src/lib.rt:305:13
 moved-requires : tie.Need-moved-requires Inv-loop μ-loop
 moved-requires c κs = search needs
 
--- src/lib.rt:307:9
 add-q : tie.Need-add-q Inv-loop μ-loop
 add-q c = omega arith
 
--- src/lib.rt:303:5
 loop-less : tie.Need-loop-less Inv-loop μ-loop
 loop-less c = omega arith
 
--- src/lib.rt:303:5
 loop-again : tie.Need-loop-again Inv-loop μ-loop
 loop-again c =
     let args = c .before .before .before .before .before .args in
@@ -58,7 +50,6 @@ loop-again c =
           (c .if1 .came),
     )
 
--- src/lib.rt:297:1
 returns : tie.Need-returns Inv-loop μ-loop
 returns c =
     let args = c .before .before .before .args in

@@ -1,5 +1,6 @@
+-- `recording::fault` meets its contract: each way out is one of the refusals' laws.
+-- Assumes nothing.
 use borrow.Author.Needs.{needs}
-use Prim.Native.Nat.{ℕ}
 use mathlib.Core.Path.{_≡_, sym, ap, _∙_}
 use denote.Ref.{now}
 use Rattle.cell.specs.declared.Formed.{Formed}
@@ -7,16 +8,10 @@ use Rattle.cell.specs.Table.{formOf}
 use Rattle.recording.specs.CheckLaws.{fault-form, fault-start, fault-looms}
 use Rattle.recording.proofs.fault.Statement.{statement}
 use Rattle.recording.proofs.fault.Tie as tie
-use Rattle.recording.proofs.fault.Reads as reads
-use Rattle.recording.proofs.fault.Lts as lts
-use Rattle.cell.proofs.form.Reads as form-reads
-use Rattle.recording.proofs.looms_fault.Reads as looms-fault-reads
 
--- src/lib.rt:112:9
 form-requires : tie.Need-form-requires
 form-requires c κs = search needs
 
--- src/lib.rt:114:9
 returns : tie.Need-returns
 returns c =
     let form = c .before .before .form .ensures in
@@ -27,15 +22,12 @@ formed-well : (c : tie.Else1)
     → formOf (now (c .before .before .before .before .args .table)) (c .before .before .before .before .args .states) (c .before .before .before .before .args .operations) .code ≡ 0
 formed-well c = ap (λ (f : Formed). f .code) (sym (c .before .before .form .ensures)) ∙ c .if1 .left
 
--- src/lib.rt:117:9
 returns-2 : tie.Need-returns-2
 returns-2 c = sym (fault-start _ _ _ _ _ (formed-well (c .before .before)) (c .if2 .taken))
 
--- src/lib.rt:119:5
 looms-fault-requires : tie.Need-looms-fault-requires
 looms-fault-requires c κs = search needs
 
--- src/lib.rt:103:1
 returns-3 : tie.Need-returns-3
 returns-3 c =
     c .looms-fault .ensures ∙ sym (fault-looms _ _ _ _ _ (formed-well (c .before .before .before)) (c .before .if2 .left))

@@ -1,5 +1,7 @@
+-- `recording::fill` meets its contract. The invariant: the words below m stand in the area and are united in the set, and what lies behind them is as it was.
+-- Assumes nothing.
 use Prim.Native.Nat.{ℕ, _-_, _≤_, _<_}
-use mathlib.Core.Path.{_≡_, refl, sym, ap, _∙_}
+use mathlib.Core.Path.{_≡_, refl, ap, _∙_}
 use mathlib.Core.List.{_++_}
 use native.Mathlib.Omega.{arith}
 use borrow.Author.Needs.{needs}
@@ -10,10 +12,6 @@ use Rattle.recording.specs.Fitting.{wordsTo}
 use Rattle.recording.specs.Words.{unionOf, filled}
 use Rattle.recording.proofs.fill.Statement.{statement}
 use Rattle.recording.proofs.fill.Tie as tie
-use Rattle.recording.proofs.fill.Reads as reads
-use Rattle.recording.proofs.fill.Lts as lts
-use Rattle.recording.proofs.word.Reads as word-reads
-use Rattle.sets.proofs.union.Reads as union-reads
 
 abbrev Inv-loop : tie.InvT-loop
 Inv-loop table states certificate side size area₀ set₀ m₀ area set m =
@@ -23,7 +21,6 @@ Inv-loop table states certificate side size area₀ set₀ m₀ area set m =
 abbrev μ-loop : tie.MeasureT-loop
 μ-loop table states certificate side size area₀ set₀ m₀ area set m = size - m
 
--- src/lib.rt:222:5
 loop-holds : tie.Need-loop-holds Inv-loop μ-loop
 unfolding filled unionOf
 loop-holds c = (search needs, refl, refl, refl)

@@ -1,3 +1,5 @@
+-- `recording::fill_both` meets its contract: the second fill lies behind the first, in the part that it was lent.
+-- Assumes nothing.
 use borrow.Author.Needs.{needs}
 use Prim.Native.Nat.{ℕ, _*_}
 use mathlib.Core.Path.{ap, ap₂, _∙_}
@@ -8,44 +10,31 @@ use Rattle.recording.specs.FillLaws.{words-length, two-parts, set-is}
 use Rattle.recording.specs.Fitting.{wordsTo}
 use Rattle.recording.proofs.fill_both.Statement.{statement}
 use Rattle.recording.proofs.fill_both.Tie as tie
-use Rattle.recording.proofs.fill_both.Reads as reads
-use Rattle.recording.proofs.fill_both.Lts as lts
-use Rattle.recording.proofs.fill.Reads as fill-reads
-use Rattle.recording.proofs.power.Reads as power-reads
 
--- src/lib.rt:214:9
 power-requires : tie.Need-power-requires
 power-requires c κs = search needs
 
--- src/lib.rt:215:9
 fill-requires : tie.Need-fill-requires
 fill-requires c κs = search needs
 
--- src/lib.rt:216:55
 mul-fill : tie.Need-mul-fill
 mul-fill c = search needs
 
--- src/lib.rt:216:55
 sub-fill : tie.Need-sub-fill
 sub-fill c = search needs
 
--- src/lib.rt:216:55
 part-fill-start : tie.Need-part-fill-start
 part-fill-start c = search needs
 
--- src/lib.rt:216:55
 part-fill-end : tie.Need-part-fill-end
 part-fill-end c = search needs
 
--- src/lib.rt:216:9
 fill-requires-2 : tie.Need-fill-requires-2
 fill-requires-2 c κs = search needs
 
--- src/lib.rt:208:1
 same-length : tie.Need-same-length
 same-length c = search needs
 
--- src/lib.rt:208:1
 returns : tie.Need-returns
 returns c =
     let start = c .before .before .before .before .before .before .before .before .before .before .before in

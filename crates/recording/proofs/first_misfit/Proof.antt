@@ -1,17 +1,15 @@
+-- `recording::first_misfit` meets its contract. The invariant: what is left to find from loom k on is what there is to find from the first.
+-- Assumes nothing.
 use Prim.Native.Nat.{_+_, _-_, _≤_}
 use mathlib.Core.Path.{_≡_, sym, _∙_}
 use native.Mathlib.Nat.{zero-add}
 use native.Mathlib.Omega.{arith}
-use lib.Seq.{length-take-le, getD-take}
 use lib.ListN.{length, take, drop}
 use borrow.Author.Needs.{needs}
 use Rattle.recording.specs.Check.{firstMisfit}
 use Rattle.recording.specs.CheckLaws.{misfit-here, misfit-further, misfit-nowhere}
 use Rattle.recording.proofs.first_misfit.Statement.{statement}
 use Rattle.recording.proofs.first_misfit.Tie as tie
-use Rattle.recording.proofs.first_misfit.Reads as reads
-use Rattle.recording.proofs.first_misfit.Lts as lts
-use Rattle.recording.proofs.misfit.Reads as misfit-reads
 
 abbrev Inv-loop : tie.InvT-loop
 Inv-loop operations count seats k₀ k =
@@ -20,15 +18,12 @@ Inv-loop operations count seats k₀ k =
 abbrev μ-loop : tie.MeasureT-loop
 μ-loop operations count seats k₀ k = count - k
 
--- src/lib.rt:156:5
 loop-holds : tie.Need-loop-holds Inv-loop μ-loop
 loop-holds c = (search needs, zero-add _)
 
--- src/lib.rt:157:20
 mul-seat : tie.Need-mul-seat Inv-loop μ-loop
 mul-seat c = omega arith
 
--- src/lib.rt:157:20
 array-copy-out-seat : tie.Need-array-copy-out-seat Inv-loop μ-loop
 array-copy-out-seat c = omega arith
 
@@ -36,11 +31,9 @@ array-copy-out-seat c = omega arith
 enough : (c : tie.Start Inv-loop μ-loop) → c .args .count ≤ length (c .args .t2)
 enough c = let whole : length (c .args .t2) ≡ 8 = search needs in omega arith
 
--- src/lib.rt:158:12
 misfit-requires : tie.Need-misfit-requires Inv-loop μ-loop
 misfit-requires c κs = search needs
 
--- src/lib.rt:159:13
 returns : tie.Need-returns Inv-loop μ-loop
 returns c =
     let loop = c .before .before .before .before .loop in
@@ -48,15 +41,12 @@ returns c =
     sym (misfit-here (start .args .t2) (start .args .count) (enough start) (start .args .operations) (loop .k) (omega arith)
     (sym (c .before .misfit .ensures) ∙ c .if1 .taken)) ∙ loop .inv .1
 
--- src/lib.rt:161:9
 add-k : tie.Need-add-k Inv-loop μ-loop
 add-k c = omega arith
 
--- src/lib.rt:156:5
 loop-less : tie.Need-loop-less Inv-loop μ-loop
 loop-less c = omega arith
 
--- src/lib.rt:156:5
 loop-again : tie.Need-loop-again Inv-loop μ-loop
 loop-again c =
     let loop = c .before .before .before .before .loop in

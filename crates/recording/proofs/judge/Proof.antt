@@ -1,3 +1,5 @@
+-- `recording::judge` meets its contract: a refusal leaves the area, and past the refusals both sides are filled and the verdict stands.
+-- Assumes nothing.
 use borrow.Author.Needs.{needs}
 use mathlib.Core.Path.{_≡_, sym, ap, _∙_}
 use lib.ListN.{length}
@@ -8,17 +10,10 @@ use Rattle.recording.specs.Check.{faultOf, judgement, verdictOn}
 use Rattle.recording.specs.CheckLaws.{judged-refused, judged-past, area-refused, area-past}
 use Rattle.recording.proofs.judge.Statement.{statement}
 use Rattle.recording.proofs.judge.Tie as tie
-use Rattle.recording.proofs.judge.Reads as reads
-use Rattle.recording.proofs.judge.Lts as lts
-use Rattle.recording.proofs.fault.Reads as fault-reads
-use Rattle.recording.proofs.fill_both.Reads as fill-both-reads
-use Rattle.recording.proofs.verdict_on.Reads as verdict-on-reads
 
--- src/lib.rt:90:9
 fault-requires : tie.Need-fault-requires
 fault-requires c κs = search needs
 
--- src/lib.rt:92:9
 -- where the test holds one of the refusals applies
 refused : (c : tie.Then1)
     → faultOf (c .before .before .before .before .before .args .table .now) (c .before .before .before .before .before .args .states)
@@ -35,7 +30,6 @@ returns c =
       sym (area-refused (args .table .now) (args .states) (args .operations) (args .certificate) (args .area .now) (refused c)),
     )
 
--- src/lib.rt:99:9
 -- past the test no refusal of 2 to 9 or 40 applies
 past : (c : tie.Else1)
     → faultOf (c .before .before .before .before .before .args .table .now) (c .before .before .before .before .before .args .states)
@@ -51,17 +45,14 @@ fill-both-requires c κs =
       admitted (args .table .now) (args .states) (args .operations) (args .certificate) (length (args .area .now)) ok .enough,
     )
 
--- src/lib.rt:100:5
 verdict-on-requires : tie.Need-verdict-on-requires
 verdict-on-requires c κs =
     let args = c .before .before .before .before .before .before .before .before .before .args in
     admitted (args .table .now) (args .states) (args .operations) (args .certificate) (length (args .area .now)) (past (c .before .before .before .before)) .few
 
--- src/lib.rt:80:1
 same-length : tie.Need-same-length
 same-length c = search needs
 
--- src/lib.rt:80:1
 returns-2 : tie.Need-returns-2
 returns-2 c =
     let args = c .before .before .before .before .before .before .before .before .before .before .args in

@@ -1,6 +1,8 @@
+-- `recording::last_by` meets its contract: each way out is one of the laws of what a loom adds.
+-- Assumes nothing.
 use borrow.Author.Needs.{needs}
-use Prim.Native.Nat.{ℕ, _-_, _≤_}
-use mathlib.Core.Path.{_≡_, sym, ap, subst, _∙_}
+use Prim.Native.Nat.{ℕ, _-_}
+use mathlib.Core.Path.{_≡_, sym, ap, _∙_}
 use mathlib.Core.Bool.{true}
 use native.Mathlib.Omega.{arith}
 use borrow.Author.Tests.{eqb-true, not-true, not-false}
@@ -13,18 +15,10 @@ use Rattle.recording.specs.Recording.{emptySeat}
 use Rattle.recording.specs.Words.{advanced}
 use Rattle.recording.proofs.last_by.Statement.{statement}
 use Rattle.recording.proofs.last_by.Tie as tie
-use Rattle.recording.proofs.last_by.Reads as reads
-use Rattle.recording.proofs.last_by.Lts as lts
-use Rattle.recording.proofs.advance.Reads as advance-reads
-use Rattle.recording.proofs.first_by.Reads as first-by-reads
-use Rattle.recording.proofs.power.Reads as power-reads
-use Rattle.sets.proofs.has.Reads as has-reads
 
--- src/lib.rt:271:9
 has-requires : tie.Need-has-requires
 has-requires c κs = search needs
 
--- src/lib.rt:272:9
 returns : tie.Need-returns
 returns c =
     let args = c .before .before .before .before .args in
@@ -34,19 +28,15 @@ returns c =
 has-loom : (c : tie.Else1) → hasOf (c .before .before .before .before .args .m) (c .before .before .before .before .args .j) ≡ true
 has-loom c = sym (c .before .has .ensures) ∙ not-false _ (c .if1 .left)
 
--- src/lib.rt:275:16
 mul-seat : tie.Need-mul-seat
 mul-seat c = search needs
 
--- src/lib.rt:275:16
 array-copy-out-seat : tie.Need-array-copy-out-seat
 array-copy-out-seat c = search needs
 
--- src/lib.rt:276:9
 power-requires : tie.Need-power-requires
 power-requires c κs = search needs
 
--- src/lib.rt:278:9
 first-by-requires : tie.Need-first-by-requires
 first-by-requires c κs =
     let start = c .before .before .before .before .before .before .before .before in (
@@ -54,7 +44,6 @@ first-by-requires c κs =
       start .pre .0 .start-fits,
     )
 
--- src/lib.rt:278:9
 returns-2 : tie.Need-returns-2
 returns-2 c =
     let start = c .before .before .before .before .before .before .before .before .before in
@@ -62,28 +51,23 @@ returns-2 c =
     ∙ sym (last-alone (start .args .table .now) (start .args .states) (start .args .certificate) (start .args .side) (start .args .earlier .now) (start .args .m) (start .args .j)
     (has-loom (c .before .before .before .before .before)) (start .pre .1 .1) (c .before .if2 .taken ∙ c .before .before .power .ensures))
 
--- src/lib.rt:280:52
 sub-advance : tie.Need-sub-advance
 sub-advance c =
     let args = c .before .before .before .before .before .before .before .before .args in
-    subst (λ (n : ℕ). n ≤ args .m) (sym (c .before .power .ensures))
-    (single-within (args .m) (args .j) (eqb-true (bit (args .m) (args .j)) 1 (has-loom (c .before .before .before .before))))
+    let alone = single-within (args .m) (args .j) (eqb-true (bit (args .m) (args .j)) 1 (has-loom (c .before .before .before .before))) in
+    omega (arith, c .before .power .ensures)
 
--- src/lib.rt:280:44
 mul-advance : tie.Need-mul-advance
 mul-advance c = search needs
 
--- src/lib.rt:280:44
 shared-slice-read-advance : tie.Need-shared-slice-read-advance
 shared-slice-read-advance c = search needs
 
--- src/lib.rt:280:5
 advance-requires : tie.Need-advance-requires
 advance-requires c κs =
     let start = c .before .before .before .before .before .before .before .before .before in
     seat-steps (start .args .table .now) (start .args .states) (start .args .certificate) (start .pre .0) (start .args .j) (start .pre .1 .1)
 
--- src/lib.rt:258:1
 returns-3 : tie.Need-returns-3
 returns-3 c =
     let start = c .before .before .before .before .before .before .before .before .before .before in

@@ -1,3 +1,5 @@
+-- `recording::looms_fault` meets its contract: each way out is one of the laws of 7 to 9 and 40.
+-- Assumes nothing.
 use borrow.Author.Needs.{needs}
 use Prim.Native.Nat.{ℕ, _*_, _≤_, _<_}
 use mathlib.Core.Path.{_≡_, sym, ap, subst, _∙_}
@@ -9,25 +11,16 @@ use Rattle.recording.specs.Recording.{sideCount}
 use Rattle.recording.specs.CheckLaws.{fault-few, fault-many, fault-misfit, fault-no-A, fault-no-B, fault-room, fault-none}
 use Rattle.recording.proofs.looms_fault.Statement.{statement}
 use Rattle.recording.proofs.looms_fault.Tie as tie
-use Rattle.recording.proofs.looms_fault.Reads as reads
-use Rattle.recording.proofs.looms_fault.Lts as lts
-use Rattle.recording.proofs.first_misfit.Reads as first-misfit-reads
-use Rattle.recording.proofs.power.Reads as power-reads
-use Rattle.recording.proofs.side_count.Reads as side-count-reads
 
--- src/lib.rt:129:9
 returns : tie.Need-returns
 returns c = sym (fault-few _ _ _ (c .if1 .taken))
 
--- src/lib.rt:132:9
 returns-2 : tie.Need-returns-2
 returns-2 c = sym (fault-many _ _ _ (c .before .if1 .left) (c .if2 .taken))
 
--- src/lib.rt:134:9
 first-misfit-requires : tie.Need-first-misfit-requires
 first-misfit-requires c κs = search needs
 
--- src/lib.rt:136:9
 returns-3 : tie.Need-returns-3
 returns-3 c =
     let past = c .before .before in

@@ -1,3 +1,5 @@
+-- `recording::side_count` meets its contract. The invariant: what is found, and what is left from loom k on, make the whole.
+-- Assumes nothing.
 use Prim.Native.Nat.{_+_, _-_, _≤_}
 use mathlib.Core.Path.{_≡_}
 use native.Mathlib.Nat.{zero-add}
@@ -8,9 +10,6 @@ use Rattle.recording.specs.CheckLaws.{side-count-further, side-count-don
 use Rattle.recording.specs.Recording.{sideCount}
 use Rattle.recording.proofs.side_count.Statement.{statement}
 use Rattle.recording.proofs.side_count.Tie as tie
-use Rattle.recording.proofs.side_count.Reads as reads
-use Rattle.recording.proofs.side_count.Lts as lts
-use Rattle.recording.proofs.same.Reads as same-reads
 
 abbrev Inv-loop : tie.InvT-loop
 Inv-loop side count seats found₀ k₀ found k =
@@ -19,19 +18,15 @@ Inv-loop side count seats found₀ k₀ found k =
 abbrev μ-loop : tie.MeasureT-loop
 μ-loop side count seats found₀ k₀ found k = count - k
 
--- src/lib.rt:183:5
 loop-holds : tie.Need-loop-holds Inv-loop μ-loop
 loop-holds c = (search needs, search needs, zero-add _)
 
--- src/lib.rt:184:20
 mul-seat : tie.Need-mul-seat Inv-loop μ-loop
 mul-seat c = omega arith
 
--- src/lib.rt:184:20
 array-copy-out-seat : tie.Need-array-copy-out-seat Inv-loop μ-loop
 array-copy-out-seat c = omega arith
 
--- src/lib.rt:185:18
 same-requires : tie.Need-same-requires Inv-loop μ-loop
 same-requires c κs = search needs
 
@@ -39,19 +34,15 @@ same-requires c κs = search needs
 enough : (c : tie.Start Inv-loop μ-loop) → c .args .count ≤ length (c .args .t2)
 enough c = let whole : length (c .args .t2) ≡ 8 = search needs in omega arith
 
--- src/lib.rt:185:9
 add-found : tie.Need-add-found Inv-loop μ-loop
 add-found c = omega (arith, c .same .ensures .1)
 
--- src/lib.rt:186:9
 add-k : tie.Need-add-k Inv-loop μ-loop
 add-k c = omega arith
 
--- src/lib.rt:183:5
 loop-less : tie.Need-loop-less Inv-loop μ-loop
 loop-less c = omega arith
 
--- src/lib.rt:183:5
 loop-again : tie.Need-loop-again Inv-loop μ-loop
 loop-again c =
     let loop = c .before .before .before .loop in
@@ -61,7 +52,6 @@ loop-again c =
       omega (arith, c .same .ensures .0, side-count-further (start .args .t2) (start .args .count) (enough start) (start .args .side) (loop .k) (omega arith), loop .inv .2),
     )
 
--- src/lib.rt:177:1
 returns : tie.Need-returns Inv-loop μ-loop
 returns c =
     let start = c .before .before in

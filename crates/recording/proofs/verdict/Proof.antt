@@ -1,3 +1,5 @@
+-- `recording::verdict` meets its contract: each way out is one of the verdict's laws.
+-- Assumes nothing.
 use borrow.Author.Needs.{needs}
 use Prim.Native.Nat.{ℕ}
 use mathlib.Core.Path.{_≡_, sym, ap, _∙_}
@@ -8,13 +10,7 @@ use Rattle.recording.specs.Check.{judgement}
 use Rattle.recording.specs.CheckLaws.{verdict-shared, verdict-returns-A, verdict-returns-B, verdict-accepted}
 use Rattle.recording.proofs.verdict.Statement.{statement}
 use Rattle.recording.proofs.verdict.Tie as tie
-use Rattle.recording.proofs.verdict.Reads as reads
-use Rattle.recording.proofs.verdict.Lts as lts
-use Rattle.recording.proofs.comes_back.Reads as comes-back-reads
-use Rattle.sets.proofs.common.Reads as common-reads
-use Rattle.sets.proofs.lowest.Reads as lowest-reads
 
--- src/lib.rt:328:9
 common-requires : tie.Need-common-requires
 common-requires c κs = search needs
 
@@ -22,11 +18,9 @@ common-requires c κs = search needs
 meet : (c : tie.After-common) → c .common .result ≡ bitAnd (c .before .args .a) (c .before .args .b)
 meet c = common-is (c .before .args .a) (c .before .args .b) (c .common .result) (c .common .ensures)
 
--- src/lib.rt:332:20
 lowest-requires : tie.Need-lowest-requires
 lowest-requires c κs = search needs
 
--- src/lib.rt:330:9
 returns : tie.Need-returns
 returns c =
     let args = c .before .before .before .args in
@@ -34,11 +28,9 @@ returns c =
     ap (λ (p : ℕ). judgement 20 p (args .a) (args .b)) (c .lowest .ensures ∙ ap (lowestOf wordBits) shared)
     ∙ sym (verdict-shared (args .start) (args .of-a) (args .of-b) (args .a) (args .b) (λ none. c .before .if1 .taken (shared ∙ none)))
 
--- src/lib.rt:337:8
 comes-back-requires : tie.Need-comes-back-requires
 comes-back-requires c κs = search needs
 
--- src/lib.rt:338:9
 returns-2 : tie.Need-returns-2
 returns-2 c =
     let past = c .before .before in
@@ -46,11 +38,9 @@ returns-2 c =
     sym (verdict-returns-A (args .start) (args .of-a) (args .of-b) (args .a) (args .b) (sym (meet (past .before)) ∙ past .if1 .left)
     (sym (c .before .comes-back .ensures) ∙ c .if2 .taken))
 
--- src/lib.rt:345:8
 comes-back-requires-2 : tie.Need-comes-back-requires-2
 comes-back-requires-2 c κs = search needs
 
--- src/lib.rt:346:9
 returns-3 : tie.Need-returns-3
 returns-3 c =
     let past = c .before .before .before .before in
@@ -58,7 +48,6 @@ returns-3 c =
     sym (verdict-returns-B (args .start) (args .of-a) (args .of-b) (args .a) (args .b) (sym (meet (past .before)) ∙ past .if1 .left)
     (sym (c .before .before .before .comes-back .ensures) ∙ c .before .before .if2 .left) (sym (c .before .comes-back2 .ensures) ∙ c .if3 .taken))
 
--- src/lib.rt:325:1
 returns-4 : tie.Need-returns-4
 returns-4 c =
     let past = c .before .before .before .before in

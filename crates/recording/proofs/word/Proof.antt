@@ -1,4 +1,6 @@
-use Prim.Native.Nat.{ℕ, _-_, _≤_}
+-- `recording::word` meets its contract. The invariant: the looms below j have added what they add.
+-- Assumes nothing.
+use Prim.Native.Nat.{_-_, _≤_}
 use mathlib.Core.Path.{_≡_, refl, sym, ap, ap₂, _∙_}
 use native.Mathlib.Omega.{arith}
 use borrow.Author.Needs.{needs}
@@ -9,10 +11,6 @@ use Rattle.recording.specs.FittingLaws.{word-more}
 use Rattle.recording.specs.Words.{wordFrom}
 use Rattle.recording.proofs.word.Statement.{statement}
 use Rattle.recording.proofs.word.Tie as tie
-use Rattle.recording.proofs.word.Reads as reads
-use Rattle.recording.proofs.word.Lts as lts
-use Rattle.recording.proofs.last_by.Reads as last-by-reads
-use Rattle.sets.proofs.union.Reads as union-reads
 
 abbrev Inv-loop : tie.InvT-loop
 Inv-loop table states certificate side earlier m set₀ j₀ set j =
@@ -21,30 +19,24 @@ Inv-loop table states certificate side earlier m set₀ j₀ set j =
 abbrev μ-loop : tie.MeasureT-loop
 μ-loop table states certificate side earlier m set₀ j₀ set j = certificate .count - j
 
--- src/lib.rt:246:5
 loop-holds : tie.Need-loop-holds Inv-loop μ-loop
 unfolding wordFrom
 loop-holds c = (search needs, refl)
 
--- src/lib.rt:249:13
 last-by-requires : tie.Need-last-by-requires Inv-loop μ-loop
 last-by-requires c κs =
     let start = c .before .before .before .before .before in
     (start .pre .0, (start .pre .1, c .if1 .taken))
 
--- src/lib.rt:247:9
 union-requires : tie.Need-union-requires Inv-loop μ-loop
 union-requires c κs = search needs
 
--- src/lib.rt:251:9
 add-j : tie.Need-add-j Inv-loop μ-loop
 add-j c = omega arith
 
--- src/lib.rt:246:5
 loop-less : tie.Need-loop-less Inv-loop μ-loop
 loop-less c = omega arith
 
--- src/lib.rt:246:5
 loop-again : tie.Need-loop-again Inv-loop μ-loop
 loop-again c =
     let args = c .before .before .before .before .before .before .before .args in
@@ -55,7 +47,6 @@ loop-again c =
           ∙ sym (word-more (args .table .now) (args .states) (args .certificate) (args .side) (args .earlier .now) (args .m) (loop .j)),
     )
 
--- src/lib.rt:232:1
 returns : tie.Need-returns Inv-loop μ-loop
 returns c =
     let args = c .before .before .before .before .before .args in
