@@ -4,4 +4,6 @@ pub mod Step
 pub mod StepLaws
 pub mod Open
 pub mod OpenLaws
+pub mod Kept
+pub mod KeptLaws
 pub mod Only
