@@ -4,6 +4,5 @@ pub mod Step
 pub mod StepLaws
 pub mod Open
 pub mod OpenLaws
-pub mod Kept
-pub mod KeptLaws
+pub mod ActsLaws
 pub mod Only

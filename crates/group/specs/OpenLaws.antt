@@ -11,24 +11,18 @@ use mathlib.Core.List.{List, [], _∷_}
 use lib.ListN.{length, getD, set, take, replicate, length-take}
 use lib.Seq.{getD-take}
 use borrow.Author.Tests.{eq-eqb, ne-eqb}
-use lib.Dec.{eqb}
 use Rattle.cell.specs.Limits.{edition}
-use Rattle.cell.specs.Table.{pick}
 use Rattle.recording.specs.declared.Seat.{Seat}
 use Rattle.recording.specs.declared.Certificate.{Certificate}
 use Rattle.recording.specs.declared.Judged.{Judged}
-use Rattle.recording.specs.Recording.{emptySeat, one, sideAt, sideCount}
+use Rattle.recording.specs.Recording.{emptySeat}
 use Rattle.recording.specs.Check.{loomsOf, firstMisfit, faultOf, judgedOf}
 use Rattle.recording.specs.CheckLaws.{as-many, judged-refused}
 use Rattle.recording.specs.AdmittedLaws.{Admitted, admitted, all-fitted}
-use Rattle.loom.specs.declared.Side.{Side}
-use Rattle.loom.specs.declared.Side.the-variants.{A, B}
 use Rattle.loom.specs.declared.Loom.{Loom}
-use Rattle.loom.specs.Sides.{sideNumber, sideFrom, sameSide}
-use Rattle.group.specs.declared.Group.{Group}
 use Rattle.group.specs.declared.Numbers.{Numbers}
 use Rattle.group.specs.declared.Opened.{Opened}
-use Rattle.group.specs.Group.{emptyLoom, countOf}
+use Rattle.group.specs.Group.{emptyLoom}
 use Rattle.group.specs.Open.{loomOf, slotsOf, freshGroup, unopened, opened, setsFrom, openedBy, openOf, Held}
 
 -- Slots with no loom are all empty.
@@ -123,53 +117,3 @@ module _ (table : List ℕ) (states operations : ℕ) (c : Certificate) (room : 
           subst (λ (seat : Seat). seat .operation < operations) (getD-take (c .count) (c .seats) k emptySeat below)
           (all-fitted operations (loomsOf c) (subst (λ n. n ≤ firstMisfit operations (loomsOf c)) (sym counted) (ok .fitted)) k
           (omega (arith, counted)) .1)
-
--- Counting a side's looms in an opened group is counting them in its certificate, whose sides are 0 or 1.
-pub count-of-slots : (s : Side) (n : ℕ) (seats : List Seat) → ((k : ℕ) → sideAt (take n seats) k ≤ 1)
-    → countOf s (take n (slotsOf n seats)) ≡ sideCount (sideNumber s) (take n seats)
-unfolding slotsOf countOf
-count-of-slots s zero seats sides = refl
-count-of-slots s (suc n) [] sides = refl
-count-of-slots s (suc n) (seat ∷ seats) sides =
-    ap (λ m. m + countOf s (take n (slotsOf n seats))) (one-of-side s (seat .side) (sides 0))
-    ∙ ap (λ m. one (eqb (seat .side) (sideNumber s)) + m) (count-of-slots s n seats (λ k. sides (suc k)))
-  where
-    one-of-side : (s : Side) (d : ℕ) → d ≤ 1 → pick (sameSide (sideFrom d) s) 1 0 ≡ one (eqb d (sideNumber s))
-    one-of-side A zero h = refl
-    one-of-side B zero h = refl
-    one-of-side A (suc zero) h = refl
-    one-of-side B (suc zero) h = refl
-    one-of-side s (suc (suc d)) h = absurd (omega arith)
-
--- What code 0 of an opening says: the check accepts, both numbers are there, and the group is the fresh one.
-pub record Accepted (table : List ℕ) (states operations : ℕ) (c : Certificate) (numbers : Numbers) (room : ℕ) : Type 0 where
-  pub by-the-check : judgedOf table states operations c room .code ≡ 0
-  pub some-a : numbers .a ≡ 0 → ⊥
-  pub some-b : numbers .b ≡ 0 → ⊥
-  pub the-group : openOf table states operations c numbers room .group ≡ freshGroup c (setsFrom (judgedOf table states operations c room)) numbers
-
-module _ (table : List ℕ) (states operations : ℕ) (c : Certificate) (numbers : Numbers) (room : ℕ) where
-  pub open-says : openOf table states operations c numbers room .code ≡ 0 → Accepted table states operations c numbers room
-  open-says h = record { by-the-check = checked; some-a = a; some-b = b; the-group = sym (ap groupIn (open-taken j c numbers checked a b)) }
-    where
-      j : Judged
-      j = judgedOf table states operations c room
-
-      groupIn : Opened → Group
-      groupIn r = r .group
-
-      code : Opened → ℕ
-      code r = r .code
-
-      checked : judgedOf table states operations c room .code ≡ 0
-      checked =
-          elim (ℕ-discrete (judgedOf table states operations c room .code) 0) [
-            | yes e ↦ e
-            | no e ↦ ap code (open-judged (judgedOf table states operations c room) c numbers e) ∙ h
-          ]
-
-      a : numbers .a ≡ 0 → ⊥
-      a e = let never : _≡_ {A = ℕ} 10 0 = ap code (open-no-a (judgedOf table states operations c room) c numbers checked e) ∙ h in omega arith
-
-      b : numbers .b ≡ 0 → ⊥
-      b e = let never : _≡_ {A = ℕ} 10 0 = ap code (open-no-b (judgedOf table states operations c room) c numbers checked a e) ∙ h in omega arith
