@@ -4,4 +4,5 @@ pub mod Step
 pub mod StepLaws
 pub mod Open
 pub mod OpenLaws
+pub mod ActsLaws
 pub mod Only

@@ -15,7 +15,7 @@ use Rattle.cell.specs.Limits.{edition}
 use Rattle.recording.specs.declared.Seat.{Seat}
 use Rattle.recording.specs.declared.Certificate.{Certificate}
 use Rattle.recording.specs.declared.Judged.{Judged}
-use Rattle.recording.specs.Recording.{emptySeat, operationAt}
+use Rattle.recording.specs.Recording.{emptySeat}
 use Rattle.recording.specs.Check.{loomsOf, firstMisfit, faultOf, judgedOf}
 use Rattle.recording.specs.CheckLaws.{as-many, judged-refused}
 use Rattle.recording.specs.AdmittedLaws.{Admitted, admitted, all-fitted}

@@ -154,7 +154,7 @@ fn fresh(certificate: Certificate, sets: Sets, numbers: Numbers) -> Group
     let start = certificate.start as u8;
     let seats = certificate.seats;
     let looms = slots(seats, certificate.count);
-    let shared = Shared {
+    let memory = Shared {
         cell: start,
         a: 0,
         b: 0,
@@ -164,7 +164,7 @@ fn fresh(certificate: Certificate, sets: Sets, numbers: Numbers) -> Group
         start,
         sets,
         numbers,
-        shared,
+        shared: memory,
         looms,
     }
 }
