@@ -1,0 +1,4 @@
+pub mod Acts
+pub mod Played
+pub mod ActsLaws
+pub mod PlayedLaws
