@@ -5,6 +5,8 @@ use mathlib.Core.Bool.{Bool, true, false, not}
 use mathlib.Core.List.{List, [], _∷_}
 use lib.Dec.{eqb}
 use Rattle.cell.specs.Table.{both, pick}
+use Rattle.loom.specs.declared.Side.{Side}
+use Rattle.loom.specs.declared.Side.the-variants.{A, B}
 use Rattle.loom.specs.declared.Place.{Place}
 use Rattle.loom.specs.declared.Place.the-variants.{Begin, Posted, Looking, Ready, Applied, Bound, Answered}
 use Rattle.loom.specs.Looms.{mostSteps}
@@ -12,8 +14,18 @@ use Rattle.group.specs.declared.Group.{Group}
 use Rattle.group.specs.Group.{loomAt}
 use Rattle.schedule.specs.declared.Act.{Act}
 use Rattle.schedule.specs.declared.Act.the-variants.{Step, Restart, RestartAll, Unknown}
+use Rattle.schedule.specs.declared.Ran.{Ran}
 use Rattle.schedule.specs.Acts.{actOf}
 use Rattle.schedule.specs.Played.{actedOf}
+
+-- A run's answers for a side, and the mark of an answer: "1 for an answer with side A, 2 with side B".
+abbrev pub answersFor : Side → Ran → ℕ
+answersFor A r = r .a
+answersFor B r = r .b
+
+abbrev pub answerMark : Side → ℕ
+answerMark A = 1
+answerMark B = 2
 
 -- How many of the marks are m.
 unfoldable pub howMany : ℕ → List ℕ → ℕ

@@ -4,3 +4,6 @@ pub mod Counts
 pub mod ActsLaws
 pub mod PlayedLaws
 pub mod BecameLaws
+pub mod CountsLaws
+pub mod LongestLaws
+pub mod AnswersLaws
