@@ -5,12 +5,22 @@ ghost use Prim.Native.Nat.{_+_, _<_, _≤_, max};
 ghost use lib.ListN.{length, drop};
 ghost use Rattle.cell.specs.Limits.{edition};
 ghost use Rattle.cell.specs.Table.{pick};
+ghost use Rattle.recording.specs.Check.{areaOf};
+ghost use Rattle.group.specs.Open.{pieces, noGroup};
 ghost use Rattle.schedule.specs.Acts.{actOf, isNamed, allNamed};
 ghost use Rattle.schedule.specs.Played.{markOf, afterStep, afterRestart, actedOf, begun, withActed, playedOf, marksOf};
+ghost use Rattle.schedule.specs.Run.{refusalOf, codeOf, unrun, ranOf, markedOf, runOf, bufferOf};
 use group::Group;
-use group::Restarted;
+use group::Numbers;
+use group::Opened;
+use group::Sets;
 use group::Stepped;
+use loom::Loom;
+use loom::Place;
 use loom::Said;
+use loom::Shared;
+use loom::Side;
+use recording::Certificate;
 
 // From this entry on, an entry is a restart of a loom.
 const RESTART: u8 = 16;
@@ -43,6 +53,117 @@ pub struct Ran {
     pub b: usize,
     pub applied: usize,
     pub longest: usize,
+}
+
+// Opens a group afresh, takes each entry of the schedule in order and writes one mark an entry: 1 for an answer with side A, 2 with side
+// B, 3 for a step refused with 31, else 0; later bytes stay. Refuses with the opening's codes, then with 12 where the schedule has more
+// than 4,096 entries, 13 where an entry names no act or no loom of the group, and 40 where there is no room for the marks. A refused run
+// returns zeros and no looms, and writes no mark. The area is as the check leaves it.
+pub fn run(
+    table: &[u8],
+    states: usize,
+    operations: usize,
+    certificate: Certificate,
+    a: u32,
+    b: u32,
+    schedule: &[u8],
+    marks: &mut [u8],
+    area: &mut [u64],
+) -> Ran
+    ensures { λ r. ⌜ (r ≡ runOf (now (table .entry)) states operations certificate (pieces a b) (now (schedule .entry)) (length (now (marks .entry))) (length (now (area .entry))))
+        × (now (marks .exit) ≡ bufferOf (now (table .entry)) states operations certificate (pieces a b) (now (schedule .entry)) (now (marks .entry)) (length (now (area .entry))))
+        × (now (area .exit) ≡ areaOf (now (table .entry)) states operations certificate (now (area .entry))) ⌝ }
+{
+    let opened = group::open(table, states, operations, certificate, a, b, area);
+    run_opened(opened, table, states, operations, schedule, marks)
+}
+
+// What a run comes to, once its group has opened or been refused.
+fn run_opened(
+    opened: Opened,
+    table: &[u8],
+    states: usize,
+    operations: usize,
+    schedule: &[u8],
+    marks: &mut [u8],
+) -> Ran
+    ensures { λ r. ⌜ (r ≡ ranOf (now (table .entry)) states operations opened (now (schedule .entry)) (length (now (marks .entry))))
+        × (now (marks .exit) ≡ markedOf (now (table .entry)) states operations opened (now (schedule .entry)) (now (marks .entry))) ⌝ }
+{
+    let code = code_of(opened, schedule, marks.len());
+    if code != 0 {
+        return unrun(code);
+    }
+    let group = opened.group;
+    play(group, table, states, operations, schedule, marks)
+}
+
+// The code of a run: the opening's, then its own.
+fn code_of(opened: Opened, schedule: &[u8], room: usize) -> u8
+    ensures { λ r. ⌜ r ≡ codeOf opened (now (schedule .entry)) room ⌝ }
+{
+    if opened.code != 0 {
+        return opened.code;
+    }
+    let group = opened.group;
+    refusal(group.count, schedule, room)
+}
+
+// The code of a run of a group of `count` looms: 12, 13, then 40, else 0.
+fn refusal(count: usize, schedule: &[u8], room: usize) -> u8
+    ensures { λ r. ⌜ r ≡ refusalOf count (now (schedule .entry)) room ⌝ }
+{
+    if cell::ENTRIES < schedule.len() {
+        return 12;
+    }
+    if !all_named(count, schedule) {
+        return 13;
+    }
+    if room < schedule.len() {
+        return 40;
+    }
+    0
+}
+
+// No group: zeros and empty slots.
+fn no_group() -> Group
+    ensures { λ r. ⌜ r ≡ noGroup ⌝ }
+{
+    let empty = Loom {
+        side: Side::A,
+        operation: 0,
+        steps: 0,
+        place: Place::Begin,
+    };
+    let looms = [empty; 8];
+    Group {
+        count: 0,
+        start: 0,
+        sets: Sets { a: 0, b: 0 },
+        numbers: Numbers { a: 0, b: 0 },
+        shared: Shared {
+            cell: 0,
+            a: 0,
+            b: 0,
+        },
+        looms,
+    }
+}
+
+// A refused run: zeros and no looms.
+fn unrun(code: u8) -> Ran
+    ensures { λ r. ⌜ r ≡ unrun code ⌝ }
+{
+    let group = no_group();
+    Ran {
+        code,
+        group,
+        entries: 0,
+        a: 0,
+        b: 0,
+        applied: 0,
+        longest: 0,
+    }
 }
 
 // The act of an entry.
