@@ -1,0 +1,12 @@
+pub mod Acts
+pub mod Played
+pub mod Run
+pub mod Counts
+pub mod ActsLaws
+pub mod PlayedLaws
+pub mod RunLaws
+pub mod BecameLaws
+pub mod CountsLaws
+pub mod LongestLaws
+pub mod AnswersLaws
+pub mod Only
