@@ -129,6 +129,13 @@ unfolding run
 run-more item width zero p h = absurd (omega arith)
 run-more item width (suc k) p h = rw sub-one
 
+-- A run goes on after an item that is taken, and stops at one that is refused.
+pub run-goes-on : (item : ℕ → Field) (width n p v : ℕ) → 0 < n → item p ≡ Is v → run item width (n - 1) (p + width) ≡ run item width n p
+run-goes-on item width n p v some h = sym (run-more item width n p some ∙ then-takes _ _ v h)
+
+pub run-stops : (item : ℕ → Field) (width n p c q : ℕ) → 0 < n → item p ≡ Not c q → Not c q ≡ run item width n p
+run-stops item width n p c q some h = sym (run-more item width n p some ∙ then-refuses _ _ c q h)
+
 -- item j of the rest is item j + 1 of the run
 next-place : (p j width : ℕ) → p + width + j * width ≡ p + suc j * width
 next-place p j width = omega (arith, suc-mul j width)

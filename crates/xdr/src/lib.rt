@@ -70,7 +70,7 @@ pub fn field_at(file: &[u8], at: usize, low: usize, end: usize, code: u8) -> Fie
 }
 
 // How many pad bytes follow so many bytes.
-fn pad(count: usize) -> usize
+pub fn pad(count: usize) -> usize
     ensures { λ r. ⌜ (r ≡ padOf count) × (r < 4) ⌝ }
 {
     (4 - count % 4) % 4

@@ -1,0 +1,4 @@
+pub mod Format
+pub mod FormatLaws
+pub mod Layout
+pub mod LayoutLaws
