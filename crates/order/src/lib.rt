@@ -169,18 +169,18 @@ fn same(a: usize, b: usize) -> usize
     if a == b { 1 } else { 0 }
 }
 
-// The two sides of looms that have been judged: refused with 9 at the loom count where a side has no loom.
-fn sides_at(file: &[u8], at: usize, count: usize) -> Field
-    requires { ⌜ at + 4 + 8 * count < 2 ^ 64 ⌝ }
-    ensures { λ r. ⌜ r ≡ sidesAt (seatsAt (now (file .entry)) count (at + 4)) at ⌝ }
+// The two sides of `count` looms from `at` on: refused with 9 at `place`, the loom count, where a side has no loom.
+fn sides_at(file: &[u8], at: usize, count: usize, place: usize) -> Field
+    requires { ⌜ at + 8 * count < 2 ^ 64 ⌝ }
+    ensures { λ r. ⌜ r ≡ sidesAt (seatsAt (now (file .entry)) count at) place ⌝ }
 {
-    if looms_of(file, at + 4, count, 0) == 0 {
-        return Field::Not(9, at);
+    if looms_of(file, at, count, 0) == 0 {
+        return Field::Not(9, place);
     }
-    if looms_of(file, at + 4, count, 1) == 0 {
-        return Field::Not(9, at);
+    if looms_of(file, at, count, 1) == 0 {
+        return Field::Not(9, place);
     }
-    Field::Is(at)
+    Field::Is(place)
 }
 
 // The product of two numbers within the limits of a table.
@@ -241,7 +241,7 @@ fn certificate(file: &[u8], plan: Plan) -> Field
             return Field::Not(code, place);
         }
     }
-    sides_at(file, at + 4, plan.looms)
+    sides_at(file, at + 8, plan.looms, at + 4)
 }
 
 // A label's length, then its bytes with their pad bytes.

@@ -5,6 +5,7 @@ use Prim.Native.Nat.{ℕ, _+_, _*_, _≤_}
 use native.Mathlib.Omega.{arith}
 use mathlib.Core.Path.{_≡_, refl, ap, _∙_}
 use lib.Dec.{eqb}
+use denote.Ref.{now}
 use Rattle.recording.specs.Recording.{one, sideCount}
 use Rattle.order.specs.Format.{seatsAt}
 use Rattle.order.specs.FormatLaws.{side-none, side-more}
@@ -42,11 +43,15 @@ loop-less c = omega arith
 loop-again : tie.Need-loop-again Inv-loop μ-loop
 loop-again c =
     let l = c .before .before .before .loop in
-    let first = c .same .ensures .0 ∙ ap (λ (w : ℕ). one (eqb w _)) (c .before .word-at .ensures .0) in
-    (omega arith, (omega arith, omega (arith, side-more _ _ (l .left) (l .p) (c .before .before .loop-test .taken), first, l .inv .1 .1)))
+    let a = c .before .before .before .before .before .args in
+    let first = c .same .ensures .0 ∙ ap (λ (w : ℕ). one (eqb w (a .side))) (c .before .word-at .ensures .0) in
+    (omega arith, (omega arith, omega (arith, side-more (now (a .file)) (a .side) (l .left) (l .p) (c .before .before .loop-test .taken), first)))
 
 returns : tie.Need-returns Inv-loop μ-loop
-returns c = omega (arith, side-none _ _ _ _ (c .loop-test .left), c .before .loop .inv .1 .1)
+returns c =
+    let l = c .before .loop in
+    let a = c .before .before .before .args in
+    omega (arith, side-none (now (a .file)) (a .side) (l .left) (l .p) (c .loop-test .left))
 
 pub looms-of-spec : {M : Type 1} → statement M
 looms-of-spec =
