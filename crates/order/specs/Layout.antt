@@ -50,5 +50,6 @@ pub record Small (P : Plan) : Type 0 where
   pub start : P .start < 2 ^ 40
   pub looms : P .looms < 2 ^ 32
   pub numbers : P .numbers < 2 ^ 40
+  pub rest : P .rest < 2 ^ 40
   pub schedule : P .schedule < 2 ^ 40
   pub acts : P .acts < 2 ^ 32

@@ -2,3 +2,5 @@ pub mod Format
 pub mod FormatLaws
 pub mod Layout
 pub mod LayoutLaws
+pub mod Order
+pub mod OrderLaws

@@ -1,19 +1,43 @@
 // An order file read into a record and two lent rooms, and the labels of the two sides.
 ghost use mathlib.Core.Path.{_≡_};
-ghost use Prim.Native.Nat.{ℕ, _+_, _*_, _≤_, _<_, _^_};
+ghost use Prim.Native.Nat.{ℕ, _+_, _*_, _%_, _≤_, _<_, _^_};
 ghost use mathlib.Core.List.{_++_};
 ghost use lib.Dec.{eqb};
 ghost use Rattle.recording.specs.Recording.{one, sideCount};
 ghost use lib.ListN.{length, take, drop, replicate};
 ghost use Rattle.cell.specs.Limits.{edition};
-ghost use Rattle.xdr.specs.Field.{fieldAt};
+ghost use Rattle.xdr.specs.Field.{wordAt, fieldAt};
 ghost use Rattle.order.specs.Layout.{Small, planOf};
 ghost use Rattle.order.specs.Format.{itemAt, widthOf, namesAct, runOf, seatsAt, sidesAt, headOf, certificateOf, piecesOf, labelAt, scheduleOf, judgedBy};
+ghost use Rattle.order.specs.Order.{seatsOf, refusedOf, acceptedOf, orderOf, readingOf, tableAfter, scheduleAfter};
+ghost use Rattle.order.specs.OrderLaws.{lowsAt};
 use recording::Seat;
 use xdr::Field;
 
 // The most entries that a table has.
 pub const TABLE: usize = 1024;
+
+// A side's piece: its number, and where its label's bytes lie in the file.
+pub struct Piece {
+    pub number: u32,
+    pub at: usize,
+    pub length: usize,
+}
+
+// What a reading gives: its code and place, and for code 0 the order. The table's entries and the schedule's are in the lent rooms.
+pub struct Order {
+    pub code: u8,
+    pub place: usize,
+    pub states: usize,
+    pub operations: usize,
+    pub entries: usize,
+    pub start: usize,
+    pub count: usize,
+    pub seats: [Seat; 8],
+    pub a: Piece,
+    pub b: Piece,
+    pub schedule: usize,
+}
 
 // Where the parts of a file begin and how long they are, as its words say.
 pub struct Plan {
@@ -326,4 +350,139 @@ fn judge(file: &[u8], plan: Plan) -> Field
         }
     }
     schedule(file, plan)
+}
+
+// The low byte of a word, which an entry within its limits is.
+fn low(value: usize) -> u8
+    ensures { λ r. ⌜ r ≡ value % 256 ⌝ }
+{
+    (value % 256) as u8
+}
+
+// `count` words from `at` on, put into the beginning of a room.
+fn fill(file: &[u8], at: usize, count: usize, room: &mut [u8])
+    requires { ⌜ (count ≤ length (now room)) × (at + 4 * count < 2 ^ 64) ⌝ }
+    ensures { λ _. ⌜ now (room .exit) ≡ lowsAt (now (file .entry)) count at ++ drop count (now (room .entry)) ⌝ }
+{
+    let mut p = at;
+    let mut i = 0;
+    while i < count {
+        room[i] = low(xdr::word_at(file, p));
+        p += 4;
+        i += 1;
+    }
+}
+
+// The seats of `count` looms from `at` on.
+fn seats(file: &[u8], at: usize, count: usize) -> [Seat; 8]
+    requires { ⌜ (count ≤ 8) × (at + 8 * count < 2 ^ 64) ⌝ }
+    ensures { λ r. ⌜ r ≡ seatsOf (now (file .entry)) count at ⌝ }
+{
+    let empty = Seat {
+        side: 0,
+        operation: 0,
+    };
+    let mut seats = [empty; 8];
+    let mut p = at;
+    let mut i = 0;
+    while i < count {
+        seats[i] = Seat {
+            side: xdr::word_at(file, p),
+            operation: xdr::word_at(file, p + 4),
+        };
+        p += 8;
+        i += 1;
+    }
+    seats
+}
+
+fn refused(code: u8, place: usize) -> Order
+    ensures { λ r. ⌜ r ≡ refusedOf code place ⌝ }
+{
+    let empty = Seat {
+        side: 0,
+        operation: 0,
+    };
+    let none = Piece {
+        number: 0,
+        at: 0,
+        length: 0,
+    };
+    Order {
+        code,
+        place,
+        states: 0,
+        operations: 0,
+        entries: 0,
+        start: 0,
+        count: 0,
+        seats: [empty; 8],
+        a: none,
+        b: none,
+        schedule: 0,
+    }
+}
+
+fn number_at(file: &[u8], at: usize) -> u32
+    ensures { λ r. ⌜ r ≡ wordAt (now (file .entry)) at ⌝ }
+{
+    xdr::word_at(file, at) as u32
+}
+
+fn accepted(file: &[u8], plan: Plan) -> Order
+    requires { ⌜ Small plan × (plan .looms ≤ edition .looms) ⌝ }
+    ensures { λ r. ⌜ r ≡ acceptedOf (now (file .entry)) plan ⌝ }
+{
+    let a = Piece {
+        number: number_at(file, plan.numbers),
+        at: plan.numbers + 12,
+        length: plan.first,
+    };
+    let b = Piece {
+        number: number_at(file, plan.numbers + 4),
+        at: plan.rest + 4,
+        length: plan.second,
+    };
+    let seats = seats(file, plan.start + 8, plan.looms);
+    Order {
+        code: 0,
+        place: 0,
+        states: plan.states,
+        operations: plan.operations,
+        entries: plan.entries,
+        start: xdr::word_at(file, plan.start),
+        count: plan.looms,
+        seats,
+        a,
+        b,
+        schedule: plan.acts,
+    }
+}
+
+// Reads an order file. The rooms take the table's entries and the schedule's; a refusal leaves both as they were.
+pub fn read(file: &[u8], table: &mut [u8], schedule: &mut [u8]) -> Order
+    ensures {
+        λ r. ⌜
+            (r ≡ orderOf (now (file .entry)) (readingOf edition (now (file .entry)) (length (now (table .entry))) (length (now (schedule .entry)))))
+            × ((now (table .exit) ≡ tableAfter (now (file .entry)) (now (table .entry)) (readingOf edition (now (file .entry)) (length (now (table .entry))) (length (now (schedule .entry)))))
+            × (now (schedule .exit) ≡ scheduleAfter (now (file .entry)) (now (schedule .entry)) (readingOf edition (now (file .entry)) (length (now (table .entry))) (length (now (schedule .entry))))))
+        ⌝
+    }
+{
+    if table.len() < TABLE {
+        return refused(40, 0);
+    }
+    if schedule.len() < cell::ENTRIES {
+        return refused(40, 0);
+    }
+    let plan = planned(file);
+    match judge(file, plan) {
+        Field::Is(_) => {}
+        Field::Not(code, place) => {
+            return refused(code, place);
+        }
+    }
+    fill(file, 12, plan.entries, table);
+    fill(file, plan.schedule + 4, plan.acts, schedule);
+    accepted(file, plan)
 }
