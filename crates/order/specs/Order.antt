@@ -1,6 +1,7 @@
 -- What reading an order file gives: document 01, "The order file" and "Codes and their order".
 -- Assumes nothing.
 use Prim.Native.Nat.{ℕ, zero, suc, _+_, _*_}
+use mathlib.Core.Path.{_≡_}
 use mathlib.Core.List.{List, [], _∷_, _++_}
 use lib.Dec.{leb}
 use lib.ListN.{length, drop, replicate}
@@ -85,3 +86,9 @@ tableAfter s room (Not code place) = room
 unfoldable pub scheduleAfter : List ℕ → List ℕ → Field → List ℕ
 scheduleAfter s room (Is v) = wordsAt s (planOf s .acts) (planOf s .schedule + 4) ++ drop (planOf s .acts) room
 scheduleAfter s room (Not code place) = room
+
+-- A reading of file s: what it returns, and what the two rooms hold afterwards.
+pub record ReadsTo (L : Limits) (s table schedule table′ schedule′ : List ℕ) (order : Order) : Type 0 where
+  pub order-is : order ≡ orderOf s (readingOf L s (length table) (length schedule))
+  pub table-is : table′ ≡ tableAfter s table (readingOf L s (length table) (length schedule))
+  pub schedule-is : schedule′ ≡ scheduleAfter s schedule (readingOf L s (length table) (length schedule))

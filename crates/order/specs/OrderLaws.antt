@@ -10,8 +10,13 @@ use lib.ListN.{length, take, drop, set, length-set, take-append-drop}
 use lib.Seq.{take-suc-set, append-snoc, drop-set-lt, drop-drop}
 use Rattle.xdr.specs.Field.{wordAt}
 use Rattle.recording.specs.declared.Seat.{Seat}
-use Rattle.order.specs.Format.{seatAt, seatsAt}
-use Rattle.order.specs.Order.{wordsAt}
+use borrow.Author.Tests.{le-leb, lt-leb}
+use Rattle.cell.specs.Limits.{Limits}
+use Rattle.xdr.specs.declared.Field.{Field}
+use Rattle.xdr.specs.declared.Field.the-variants.{Is, Not}
+use Rattle.order.specs.Layout.{planOf}
+use Rattle.order.specs.Format.{seatAt, seatsAt, judgedBy}
+use Rattle.order.specs.Order.{tableRoom, readingOf, wordsAt, refusedOf, acceptedOf, orderOf, tableAfter, scheduleAfter, ReadsTo}
 
 -- The low bytes of n words, from p on.
 unfoldable pub lowsAt : List ℕ → ℕ → ℕ → List ℕ
@@ -70,3 +75,32 @@ words-low s (suc k) p h =
     let here : wordAt s p % 256 ≡ wordAt s p = omega arith in
     let rest : (j : ℕ) → j < k → wordAt s (p + 4 + j * 4) < 256 = λ j l. let e : p + 4 + j * 4 ≡ p + suc j * 4 = omega arith in rw e (h (suc j) (omega arith)) in
     rw (here, words-low s k (p + 4) rest)
+
+-- The rooms are looked at first: a short one gives 40, else the file decides.
+module _ (L : Limits) (s : List ℕ) (table schedule : ℕ) where
+  pub short-table : table < tableRoom L → readingOf L s table schedule ≡ Not 40 0
+  unfolding readingOf
+  short-table h = simp (lt-leb (tableRoom L) table h)
+
+  pub short-schedule : tableRoom L ≤ table → schedule < L .entries → readingOf L s table schedule ≡ Not 40 0
+  unfolding readingOf
+  short-schedule t h = simp (le-leb (tableRoom L) table t, lt-leb (L .entries) schedule h)
+
+  pub rooms-suffice : tableRoom L ≤ table → L .entries ≤ schedule → readingOf L s table schedule ≡ judgedBy L s (planOf s)
+  unfolding readingOf
+  rooms-suffice t h = simp (le-leb (tableRoom L) table t, le-leb (L .entries) schedule h)
+
+-- A refused reading, and one that isn't.
+module _ (L : Limits) (s table schedule : List ℕ) where
+  pub refused-reads : (code place : ℕ) → readingOf L s (length table) (length schedule) ≡ Not code place
+      → ReadsTo L s table schedule table schedule (refusedOf code place)
+  unfolding orderOf tableAfter scheduleAfter
+  refused-reads code place h = record { order-is = rw h; table-is = rw h; schedule-is = rw h }
+
+  pub accepted-reads : (v : ℕ) → readingOf L s (length table) (length schedule) ≡ Is v
+      → ReadsTo L s table schedule
+        (wordsAt s (planOf s .entries) 12 ++ drop (planOf s .entries) table)
+        (wordsAt s (planOf s .acts) (planOf s .schedule + 4) ++ drop (planOf s .acts) schedule)
+        (acceptedOf s (planOf s))
+  unfolding orderOf tableAfter scheduleAfter
+  accepted-reads v h = record { order-is = rw h; table-is = rw h; schedule-is = rw h }

@@ -9,7 +9,7 @@ ghost use Rattle.cell.specs.Limits.{edition};
 ghost use Rattle.xdr.specs.Field.{wordAt, fieldAt};
 ghost use Rattle.order.specs.Layout.{Small, planOf};
 ghost use Rattle.order.specs.Format.{itemAt, widthOf, namesAct, runOf, seatsAt, sidesAt, headOf, certificateOf, piecesOf, labelAt, scheduleOf, judgedBy};
-ghost use Rattle.order.specs.Order.{seatsOf, refusedOf, acceptedOf, orderOf, readingOf, tableAfter, scheduleAfter};
+ghost use Rattle.order.specs.Order.{seatsOf, refusedOf, acceptedOf, ReadsTo};
 ghost use Rattle.order.specs.OrderLaws.{lowsAt};
 use recording::Seat;
 use xdr::Field;
@@ -463,9 +463,14 @@ fn accepted(file: &[u8], plan: Plan) -> Order
 pub fn read(file: &[u8], table: &mut [u8], schedule: &mut [u8]) -> Order
     ensures {
         λ r. ⌜
-            (r ≡ orderOf (now (file .entry)) (readingOf edition (now (file .entry)) (length (now (table .entry))) (length (now (schedule .entry)))))
-            × ((now (table .exit) ≡ tableAfter (now (file .entry)) (now (table .entry)) (readingOf edition (now (file .entry)) (length (now (table .entry))) (length (now (schedule .entry)))))
-            × (now (schedule .exit) ≡ scheduleAfter (now (file .entry)) (now (schedule .entry)) (readingOf edition (now (file .entry)) (length (now (table .entry))) (length (now (schedule .entry))))))
+            ReadsTo
+            edition
+            (now (file .entry))
+            (now (table .entry))
+            (now (schedule .entry))
+            (now (table .exit))
+            (now (schedule .exit))
+            r
         ⌝
     }
 {

@@ -118,6 +118,12 @@ pub then-taken : (f g : Field) (u : ℕ) → andThen f g ≡ Is u → Passed f �
 then-taken (Is v) g u h = ((v, refl), h)
 then-taken (Not c p) g u h = absurd (let z : _≡_ {A = ℕ} 0 1 = cc in omega arith)
 
+pub then-both : (f g : Field) → Passed (andThen f g) → Passed f × Passed g
+then-both f g (u, h) = (then-taken f g u h .0, (u, then-taken f g u h .1))
+
+pub then-passes : (f g : Field) → Passed f → Passed g → Passed (andThen f g)
+then-passes f g (v, e) (u, h) = (u, then-takes f g v e ∙ h)
+
 -- An empty run is taken; one that isn't empty begins with its first item.
 pub run-none : (item : ℕ → Field) (width n p : ℕ) → n ≤ 0 → run item width n p ≡ Is p
 unfolding run

@@ -15,14 +15,14 @@ use Rattle.xdr.specs.Field.{both, judged}
 use Rattle.xdr.specs.FieldLaws.{both-left, both-right, Taken, judged-takes, judged-refuses, judged-ends, judged-taken}
 use Rattle.xdr.specs.Opaque.{padOf, padded, all, opaqueAt}
 
--- A length with its pad bytes is a multiple of four, and the pad bytes are fewer than four.
+-- The pad bytes are fewer than four, and a longer part has no fewer bytes with them.
 pub pad-below : (n : ℕ) → padOf n < 4
 unfolding padOf
 pad-below n = omega arith
 
-pub padded-bound : (n k : ℕ) → n ≤ 4 * k → padded n ≤ 4 * k
+pub padded-grows : (n m : ℕ) → n ≤ m → padded n ≤ padded m
 unfolding padOf
-padded-bound n k h = omega arith
+padded-grows n m h = omega arith
 
 -- No bytes pass every test; some pass if the first does, and the rest.
 pub all-none : (ok : ℕ → Bool) (s : List ℕ) (n p : ℕ) → n ≤ 0 → all ok s n p ≡ true
