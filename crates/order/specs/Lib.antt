@@ -1,8 +1,3 @@
-pub mod Accepted
-pub mod Format
-pub mod FormatLaws
-pub mod Layout
-pub mod LayoutLaws
 pub mod Order
 pub mod OrderLaws
 pub mod ReadLaws

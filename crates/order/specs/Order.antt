@@ -13,9 +13,9 @@ use Rattle.xdr.specs.declared.Field.the-variants.{Is, Not}
 use Rattle.xdr.specs.Field.{pickField, both, wordAt}
 use Rattle.order.specs.declared.Order.{Order}
 use Rattle.order.specs.declared.Piece.{Piece}
-use Rattle.order.specs.declared.Plan.{Plan}
-use Rattle.order.specs.Layout.{planOf}
-use Rattle.order.specs.Format.{seatsAt, judgedBy}
+use Rattle.format.specs.declared.Plan.{Plan}
+use Rattle.format.specs.Layout.{planOf}
+use Rattle.format.specs.Format.{seatsAt, verdictOf}
 
 -- The table room and the schedule room: "rooms of 1,024 table and 4,096 schedule entries".
 abbrev pub tableRoom : Limits → ℕ
@@ -23,7 +23,7 @@ tableRoom L = L .states * L .operations
 
 -- "Reading: 40 first (...), then the fields in file order"; "for 40, zero".
 unfoldable pub readingOf : Limits → List ℕ → ℕ → ℕ → Field
-readingOf L s table schedule = pickField (both (leb (tableRoom L) table) (leb (L .entries) schedule)) (judgedBy L s (planOf s)) (Not 40 0)
+readingOf L s table schedule = pickField (both (leb (tableRoom L) table) (leb (L .entries) schedule)) (verdictOf L s) (Not 40 0)
 
 -- The words of n items of four bytes, from p on.
 unfoldable pub wordsAt : List ℕ → ℕ → ℕ → List ℕ

@@ -14,8 +14,8 @@ use borrow.Author.Tests.{le-leb, lt-leb}
 use Rattle.cell.specs.Limits.{Limits}
 use Rattle.xdr.specs.declared.Field.{Field}
 use Rattle.xdr.specs.declared.Field.the-variants.{Is, Not}
-use Rattle.order.specs.Layout.{planOf}
-use Rattle.order.specs.Format.{seatAt, seatsAt, judgedBy}
+use Rattle.format.specs.Layout.{planOf}
+use Rattle.format.specs.Format.{seatAt, seatsAt, verdictOf}
 use Rattle.order.specs.Order.{tableRoom, readingOf, wordsAt, refusedOf, acceptedOf, orderOf, tableAfter, scheduleAfter, ReadsTo}
 
 -- The low bytes of n words, from p on.
@@ -86,7 +86,7 @@ module _ (L : Limits) (s : List ℕ) (table schedule : ℕ) where
   unfolding readingOf
   short-schedule t h = simp (le-leb (tableRoom L) table t, lt-leb (L .entries) schedule h)
 
-  pub rooms-suffice : tableRoom L ≤ table → L .entries ≤ schedule → readingOf L s table schedule ≡ judgedBy L s (planOf s)
+  pub rooms-suffice : tableRoom L ≤ table → L .entries ≤ schedule → readingOf L s table schedule ≡ verdictOf L s
   unfolding readingOf
   rooms-suffice t h = simp (le-leb (tableRoom L) table t, le-leb (L .entries) schedule h)
 

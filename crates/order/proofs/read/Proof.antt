@@ -2,7 +2,7 @@
 -- Assumes nothing.
 use borrow.Author.Needs.{needs}
 use native.Mathlib.Omega.{arith}
-use mathlib.Core.Path.{_≡_, sym, _∙_}
+use mathlib.Core.Path.{sym, _∙_}
 use Rattle.order.specs.OrderLaws.{short-table, short-schedule, rooms-suffice, refused-reads}
 use Rattle.order.specs.ReadLaws.{file-bounds, reads}
 use Rattle.order.proofs.read.Statement.{statement}
@@ -18,10 +18,9 @@ refused-requires-2 : tie.Need-refused-requires-2
 refused-requires-2 c κs = search needs
 
 returns-2 : tie.Need-returns-2
-returns-2 c = rw (c .refused2 .ensures) (refused-reads _ _ _ _ _ _ (short-schedule _ _ _ _ (c .before .before .if1 .left) (c .before .if2 .taken)))
-
-planned-requires : tie.Need-planned-requires
-planned-requires c κs = search needs
+returns-2 c =
+    rw (c .refused2 .ensures)
+    (refused-reads _ _ _ _ _ _ (short-schedule _ _ _ _ (c .before .before .if1 .left) (c .before .if2 .taken)))
 
 judge-requires : tie.Need-judge-requires
 judge-requires c κs = search needs
@@ -38,11 +37,14 @@ refused-requires-3 c κs = search needs
 returns-3 : tie.Need-returns-3
 returns-3 c =
     rw (c .refused3 .ensures)
-    (refused-reads _ _ _ _ _ _ (rooms-suffice _ _ _ _ (c .before .before .before .before .before .before .before .if1 .left) (c .before .before .before .before .before .before .if2 .left) ∙ (rw (c .before .before .before .before .before .planned .ensures .0) at (sym (c .before .before .before .before .judge .ensures) ∙ c .before .before .code .given .1))))
+    (refused-reads _ _ _ _ _ _ (rooms-suffice _ _ _ _ (c .before .before .before .before .before .before .if1 .left) (c .before .before .before .before .before .if2 .left) ∙ (sym (c .before .before .before .before .judge .ensures) ∙ c .before .before .code .given .1)))
+
+planned-requires : tie.Need-planned-requires
+planned-requires c κs = search needs
 
 fill-requires : tie.Need-fill-requires
 fill-requires c κs =
-    let B = file-bounds _ _ _ (c .before .before .before .before .planned .ensures .0) (sym (c .before .before .before .judge .ensures) ∙ c .before .enum-told .given .1) in
+    let B = file-bounds _ _ _ (c .before .planned .ensures .0) (sym (c .before .before .before .before .judge .ensures) ∙ c .before .before .enum-told .given .1) in
     (omega (arith, B .size), omega (arith, B .size))
 
 add-fill : tie.Need-add-fill
@@ -50,12 +52,12 @@ add-fill c = search needs
 
 fill-requires-2 : tie.Need-fill-requires-2
 fill-requires-2 c κs =
-    let B = file-bounds _ _ _ (c .before .before .before .before .before .before .before .before .before .planned .ensures .0) (sym (c .before .before .before .before .before .before .before .before .judge .ensures) ∙ c .before .before .before .before .before .before .enum-told .given .1) in
-    (omega (arith, B .count, c .before .before .before .before .before .before .before .before .before .before .if2 .left), omega (arith, B .count, c .before .before .before .before .before .before .before .before .before .planned .ensures .1 .schedule))
+    let B = file-bounds _ _ _ (c .before .before .before .before .before .before .planned .ensures .0) (sym (c .before .before .before .before .before .before .before .before .before .judge .ensures) ∙ c .before .before .before .before .before .before .before .enum-told .given .1) in
+    (omega (arith, B .count, c .before .before .before .before .before .before .before .before .before .before .if2 .left), omega (arith, B .count, c .before .before .before .before .before .before .planned .ensures .1 .schedule))
 
 accepted-requires : tie.Need-accepted-requires
 accepted-requires c κs =
-    (c .before .before .before .before .before .before .before .before .before .before .before .before .planned .ensures .1, file-bounds _ _ _ (c .before .before .before .before .before .before .before .before .before .before .before .before .planned .ensures .0) (sym (c .before .before .before .before .before .before .before .before .before .before .before .judge .ensures) ∙ c .before .before .before .before .before .before .before .before .before .enum-told .given .1) .looms)
+    (c .before .before .before .before .before .before .before .before .before .planned .ensures .1, file-bounds _ _ _ (c .before .before .before .before .before .before .before .before .before .planned .ensures .0) (sym (c .before .before .before .before .before .before .before .before .before .before .before .before .judge .ensures) ∙ c .before .before .before .before .before .before .before .before .before .before .enum-told .given .1) .looms)
 
 same-length : tie.Need-same-length
 same-length c = search needs
@@ -65,7 +67,7 @@ same-length-2 c = search needs
 
 returns-4 : tie.Need-returns-4
 returns-4 c =
-    reads _ _ _ (c .before .before .before .before .before .before .before .before .before .before .before .before .before .planned .ensures .0) (sym (c .before .before .before .before .before .before .before .before .before .before .before .before .judge .ensures) ∙ c .before .before .before .before .before .before .before .before .before .before .enum-told .given .1) _ _ _ _ _ (c .before .before .before .before .before .before .before .before .before .before .before .before .before .before .before .if1 .left) (c .before .before .before .before .before .before .before .before .before .before .before .before .before .before .if2 .left)
+    reads _ _ _ (c .before .before .before .before .before .before .before .before .before .before .planned .ensures .0) (sym (c .before .before .before .before .before .before .before .before .before .before .before .before .before .judge .ensures) ∙ c .before .before .before .before .before .before .before .before .before .before .before .enum-told .given .1) _ _ _ _ _ (c .before .before .before .before .before .before .before .before .before .before .before .before .before .before .before .if1 .left) (c .before .before .before .before .before .before .before .before .before .before .before .before .before .before .if2 .left)
     (c .accepted .ensures) (c .before .before .before .before .before .before .before .before .fill .ensures) (c .before .before .before .fill2 .ensures)
 
 pub read-spec : {M : Type 1} → statement M
@@ -76,12 +78,12 @@ read-spec =
     returns
     refused-requires-2
     returns-2
-    planned-requires
     judge-requires
     enum-told
     enum-known-code
     refused-requires-3
     returns-3
+    planned-requires
     fill-requires
     add-fill
     fill-requires-2

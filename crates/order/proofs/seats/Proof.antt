@@ -6,7 +6,7 @@ use native.Mathlib.Nat.{sub-zero}
 use native.Mathlib.Omega.{arith}
 use mathlib.Core.Path.{_≡_, refl, ap, _∙_}
 use denote.Ref.{now}
-use Rattle.order.specs.Format.{seatsAt}
+use Rattle.format.specs.Format.{seatsAt}
 use Rattle.order.specs.Order.{noSeats, seatsOf}
 use Rattle.order.specs.OrderLaws.{Filling, filling-begins, filling-goes-on, filling-ends, seats-next, seats-none}
 use Rattle.order.proofs.seats.Statement.{statement}
