@@ -1,3 +1,5 @@
+pub mod Label
+pub mod LabelLaws
 pub mod Order
 pub mod OrderLaws
 pub mod ReadLaws

@@ -8,6 +8,7 @@ ghost use Rattle.xdr.specs.Field.{wordAt};
 ghost use Rattle.format.specs.Layout.{Small};
 ghost use Rattle.order.specs.Order.{seatsOf, refusedOf, acceptedOf, ReadsTo};
 ghost use Rattle.order.specs.OrderLaws.{lowsAt};
+ghost use Rattle.order.specs.Label.{trimmedOf, LabelOf};
 use format::Plan;
 use recording::Seat;
 use xdr::Field;
@@ -175,4 +176,34 @@ pub fn read(file: &[u8], table: &mut [u8], schedule: &mut [u8]) -> Order
     fill(file, 12, plan.entries, table);
     fill(file, plan.schedule + 4, plan.acts, schedule);
     accepted(file, plan)
+}
+
+// How many bytes of a label are left without its trailing spaces.
+fn trimmed(label: &[u8]) -> usize
+    ensures { λ r. ⌜ (r ≡ trimmedOf (now (label .entry)) (length (now (label .entry)))) × (r ≤ length (now (label .entry))) ⌝ }
+{
+    let mut n = label.len();
+    while 0 < n {
+        if label[n - 1] != 32 {
+            return n;
+        }
+        n -= 1;
+    }
+    n
+}
+
+// The label of side 0 (A) or 1 (B) without its trailing spaces: a part of the caller's own bytes. Any other side number gives the empty
+// part at the beginning of label A.
+pub fn label<'a>(a: &'a [u8], b: &'a [u8], side: usize) -> &'a [u8]
+    ensures { λ r. ⌜ LabelOf (a .entry) (b .entry) side r ⌝ }
+{
+    if side == 0 {
+        let n = trimmed(a);
+        return &a[..n];
+    }
+    if side == 1 {
+        let n = trimmed(b);
+        return &b[..n];
+    }
+    &a[..0]
 }
