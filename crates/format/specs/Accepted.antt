@@ -72,7 +72,7 @@ module _ (L : Limits) (s : List ℕ) (P : Plan) where
         label-B = labels .1;
         schedule = schedule .0;
         acts = acts .0;
-        end = acts .1
+        end = acts .1;
       }
 
   pub file-takes : Passes L s P → Passed (judgedBy L s P)
@@ -138,7 +138,7 @@ bounds L s h =
       second = omega arith;
       count = omega arith;
       acts = λ j l. let act = acts j l in act-below (P .looms) _ (field-taken (namesAct (P .looms)) 13 s (P .schedule + 4 + j * 4) (act .0) (act .1) .good);
-      end = end-taken 14 s _ _ (h .end .1)
+      end = end-taken 14 s _ _ (h .end .1);
     }
 
 pub verdict-bounds : (L : Limits) (s : List ℕ) → Passed (verdictOf L s) → Bounds L s (planOf s)

@@ -42,7 +42,7 @@ planOf s =
       rest = rest;
       second = second;
       schedule = schedule;
-      acts = wordAt s schedule
+      acts = wordAt s schedule;
     }
 
 -- A plan whose places and counts are far below the largest position, as those of words are.

@@ -20,17 +20,17 @@ pub plan-is : (s : List ℕ) (entries looms first pads second pads′ states ope
     → operations ≡ wordAt s 4
     → acts ≡ wordAt s (numbersFrom (startFrom entries) looms + 8 + 4 + first + pads + 4 + second + pads′)
     → record {
-        states = states;
-        operations = operations;
-        entries = entries;
-        start = startFrom entries;
-        looms = looms;
-        numbers = numbersFrom (startFrom entries) looms;
-        first = first;
-        rest = numbersFrom (startFrom entries) looms + 8 + 4 + first + pads;
-        second = second;
-        schedule = numbersFrom (startFrom entries) looms + 8 + 4 + first + pads + 4 + second + pads′;
-        acts = acts
-      } ≡ planOf s
+      states = states;
+      operations = operations;
+      entries = entries;
+      start = startFrom entries;
+      looms = looms;
+      numbers = numbersFrom (startFrom entries) looms;
+      first = first;
+      rest = numbersFrom (startFrom entries) looms + 8 + 4 + first + pads;
+      second = second;
+      schedule = numbersFrom (startFrom entries) looms + 8 + 4 + first + pads + 4 + second + pads′;
+      acts = acts;
+    } ≡ planOf s
 unfolding planOf
 plan-is s entries looms first pads second pads′ states operations acts e l f p s′ p′ q o a = rw (a, o, q, p′, s′, p, f, l, e)

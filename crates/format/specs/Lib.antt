@@ -4,3 +4,4 @@ pub mod FormatLaws
 pub mod Layout
 pub mod LayoutLaws
 pub mod Longest
+pub mod Only

@@ -54,7 +54,7 @@ refusedOf code place = record {
   seats = noSeats;
   a = noPiece;
   b = noPiece;
-  schedule = 0
+  schedule = 0;
 }
 
 -- The order of a file that isn't refused. A label is given by where its bytes lie in the file.
@@ -70,7 +70,7 @@ acceptedOf s P = record {
   seats = seatsOf s (P .looms) (P .start + 8);
   a = record { number = wordAt s (P .numbers); at = P .numbers + 12; length = P .first };
   b = record { number = wordAt s (P .numbers + 4); at = P .rest + 4; length = P .second };
-  schedule = P .acts
+  schedule = P .acts;
 }
 
 -- What is returned, and what the rooms hold afterwards: "a refusal writes nothing to lent memory", "room beyond the items read stays as

@@ -40,7 +40,7 @@ module _ {A : Type 0} (before whole : List A) where
       record {
         same-length = length-set room i v ∙ f .same-length;
         front = rw (add-one, take-suc-set room i v l′) (append-snoc (take i room) v rest′ ∙ ap (λ (xs : List A). take i room ++ xs) (sym e) ∙ f .front);
-        beyond = drop-set-lt (i + 1) room i v (omega arith) ∙ sym (drop-drop 1 i room) ∙ ap (drop 1) (f .beyond) ∙ drop-drop 1 i before
+        beyond = drop-set-lt (i + 1) room i v (omega arith) ∙ sym (drop-drop 1 i room) ∙ ap (drop 1) (f .beyond) ∙ drop-drop 1 i before;
       }
 
   pub filling-ends : (n : ℕ) (rest room : List A) → rest ≡ [] → Filling before whole n rest room → room ≡ whole ++ drop n before
@@ -99,8 +99,8 @@ module _ (L : Limits) (s table schedule : List ℕ) where
 
   pub accepted-reads : (v : ℕ) → readingOf L s (length table) (length schedule) ≡ Is v
       → ReadsTo L s table schedule
-        (wordsAt s (planOf s .entries) 12 ++ drop (planOf s .entries) table)
-        (wordsAt s (planOf s .acts) (planOf s .schedule + 4) ++ drop (planOf s .acts) schedule)
-        (acceptedOf s (planOf s))
+      (wordsAt s (planOf s .entries) 12 ++ drop (planOf s .entries) table)
+      (wordsAt s (planOf s .acts) (planOf s .schedule + 4) ++ drop (planOf s .acts) schedule)
+      (acceptedOf s (planOf s))
   unfolding orderOf tableAfter scheduleAfter
   accepted-reads v h = record { order-is = rw h; table-is = rw h; schedule-is = rw h }

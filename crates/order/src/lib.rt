@@ -147,18 +147,16 @@ fn accepted(file: &[u8], plan: Plan) -> Order
 
 // Reads an order file. The rooms take the table's entries and the schedule's; a refusal leaves both as they were.
 pub fn read(file: &[u8], table: &mut [u8], schedule: &mut [u8]) -> Order
-    ensures {
-        λ r. ⌜
-            ReadsTo
-            edition
-            (now (file .entry))
-            (now (table .entry))
-            (now (schedule .entry))
-            (now (table .exit))
-            (now (schedule .exit))
-            r
-        ⌝
-    }
+    ensures { λ r. ⌜
+        ReadsTo
+        edition
+        (now (file .entry))
+        (now (table .entry))
+        (now (schedule .entry))
+        (now (table .exit))
+        (now (schedule .exit))
+        r
+        ⌝ }
 {
     if table.len() < TABLE {
         return refused(40, 0);

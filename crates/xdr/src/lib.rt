@@ -7,7 +7,6 @@ ghost use lib.Dec.{leb};
 ghost use Rattle.xdr.specs.Field.{joined, wordAt, within, fieldAt, endAt};
 ghost use Rattle.xdr.specs.Opaque.{padOf, all, opaqueAt};
 
-
 // What a field gives: its value, or the code of its refusal and the byte where it begins.
 pub enum Field {
     Is(usize),

@@ -76,10 +76,11 @@ word-at-requires-7 : tie.Need-word-at-requires-7
 word-at-requires-7 c κs = search needs
 
 returns : tie.Need-returns
-returns c =
-    (plan-is _ _ _ _ _ _ _ _ _ _ (c .before .before .before .before .before .before .before .before .word-at .ensures .0) (c .before .before .before .before .before .before .before .word-at2 .ensures .0) (c .before .before .before .before .before .before .word-at3 .ensures .0) (c .before .before .before .before .before .pad .ensures .0)
-    (c .before .before .before .before .word-at4 .ensures .0) (c .before .before .before .pad2 .ensures .0) (c .before .before .word-at5 .ensures .0) (c .before .word-at6 .ensures .0) (c .word-at7 .ensures .0),
-    record { start = omega arith; looms = omega arith; numbers = omega arith; rest = omega arith; schedule = omega arith; acts = omega arith })
+returns c = (
+  plan-is _ _ _ _ _ _ _ _ _ _ (c .before .before .before .before .before .before .before .before .word-at .ensures .0) (c .before .before .before .before .before .before .before .word-at2 .ensures .0) (c .before .before .before .before .before .before .word-at3 .ensures .0) (c .before .before .before .before .before .pad .ensures .0)
+      (c .before .before .before .before .word-at4 .ensures .0) (c .before .before .before .pad2 .ensures .0) (c .before .before .word-at5 .ensures .0) (c .before .word-at6 .ensures .0) (c .word-at7 .ensures .0),
+  record { start = omega arith; looms = omega arith; numbers = omega arith; rest = omega arith; schedule = omega arith; acts = omega arith },
+)
 
 pub planned-spec : {M : Type 1} → statement M
 planned-spec =

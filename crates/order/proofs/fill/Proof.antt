@@ -45,9 +45,13 @@ loop-again : tie.Need-loop-again Inv-loop μ-loop
 loop-again c =
     let l = c .before .before .before .loop in
     let a = c .before .before .before .before .before .before .args in
-    let byte = c .low .ensures ∙ ap (λ (w : ℕ). w % 256) (c .before .word-at .ensures .0) in
-    (omega arith, (omega arith,
-    rw byte (filling-goes-on _ _ _ _ _ _ _ (omega arith) (lows-next (now (a .file)) (a .count) (l .i) (l .p) (c .before .before .loop-test .taken)) (l .inv .1 .1))))
+    let byte = c .low .ensures ∙ ap (λ (w : ℕ). w % 256) (c .before .word-at .ensures .0) in (
+      omega arith,
+      (
+        omega arith,
+        rw byte (filling-goes-on _ _ _ _ _ _ _ (omega arith) (lows-next (now (a .file)) (a .count) (l .i) (l .p) (c .before .before .loop-test .taken)) (l .inv .1 .1)),
+      ),
+    )
 
 same-length : tie.Need-same-length Inv-loop μ-loop
 same-length c = c .before .loop .inv .1 .1 .same-length

@@ -51,10 +51,14 @@ loop-less c = omega arith
 loop-again : tie.Need-loop-again Inv-loop μ-loop
 loop-again c =
     let l = c .before .before .before .loop in
-    let a = c .before .before .before .before .before .args in
-    (omega arith, (omega arith,
-    rw (c .before .word-at .ensures .0, c .word-at2 .ensures .0)
-    (filling-goes-on _ _ _ _ _ _ _ (omega arith) (seats-next (now (a .file)) (a .count) (l .i) (l .p) (c .before .before .loop-test .taken)) (l .inv .1 .1))))
+    let a = c .before .before .before .before .before .args in (
+      omega arith,
+      (
+        omega arith,
+        rw (c .before .word-at .ensures .0, c .word-at2 .ensures .0)
+            (filling-goes-on _ _ _ _ _ _ _ (omega arith) (seats-next (now (a .file)) (a .count) (l .i) (l .p) (c .before .before .loop-test .taken)) (l .inv .1 .1)),
+      ),
+    )
 
 returns : tie.Need-returns Inv-loop μ-loop
 unfolding seatsOf

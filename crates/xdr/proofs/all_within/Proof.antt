@@ -44,9 +44,10 @@ loop-less c = omega arith
 
 loop-again : tie.Need-loop-again Inv-loop μ-loop
 loop-again c =
-    let l = c .before .before .before .before .loop in
-    (omega arith,
-    sym (all-more _ _ _ _ (c .before .before .before .loop-test .taken) (within-takes _ _ _ (c .before .if1 .left) (c .if2 .left))) ∙ l .inv .1)
+    let l = c .before .before .before .before .loop in (
+      omega arith,
+      sym (all-more _ _ _ _ (c .before .before .before .loop-test .taken) (within-takes _ _ _ (c .before .if1 .left) (c .if2 .left))) ∙ l .inv .1,
+    )
 
 returns-3 : tie.Need-returns-3 Inv-loop μ-loop
 returns-3 c = sym (all-none _ _ _ _ (c .loop-test .left)) ∙ c .before .loop .inv .1
