@@ -1,0 +1,7 @@
+pub mod Accepted
+pub mod Format
+pub mod FormatLaws
+pub mod Layout
+pub mod LayoutLaws
+pub mod Longest
+pub mod Only

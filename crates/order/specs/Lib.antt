@@ -1,0 +1,6 @@
+pub mod Label
+pub mod LabelLaws
+pub mod Only
+pub mod Order
+pub mod OrderLaws
+pub mod ReadLaws

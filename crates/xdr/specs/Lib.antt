@@ -1,0 +1,5 @@
+pub mod Field
+pub mod FieldLaws
+pub mod Only
+pub mod Opaque
+pub mod OpaqueLaws
