@@ -1,21 +1,24 @@
-// The shared memory of a group as one record, lent to the step and altered there.
+// The shared memory of a group as one record that is lent to the step and altered there. A restart does not take the record at all: it
+// sets a loom's place and count (`loom::Loom::restarted`, `group::restart`), so there is no restart here.
 ghost use mathlib.Core.Path.{_≡_};
 ghost use Rattle.loom.specs.Looms.{rulesOf};
 ghost use Rattle.group.specs.Step.{stepOnOf};
-ghost use Rattle.lent.specs.Lent.{returned, left};
+ghost use Rattle.lent.specs.Lent.{returnedOf, leftOf};
 use group::Outcome;
 use loom::Lead;
 use loom::Loom;
 use loom::Said;
 use loom::Shared;
 
-// What a step on lent memory returns: the code, what it says, and the loom.
+// What a step on a lent record hands back: the code, what it says, and the loom.
 pub struct Lent {
     pub code: u8,
     pub said: Said,
     pub loom: Loom,
 }
 
+// One step of a loom on the lent record, by the rules of its group: `number` is what it posts. Refuses as `group::step_on`, with 32 and
+// then 31, and leaves the record and the loom as they were.
 pub fn step_lent(
     shared: &mut Shared,
     lead: Lead,
@@ -25,8 +28,8 @@ pub fn step_lent(
     operations: usize,
     loom: Loom,
 ) -> Lent
-    ensures { λ r. ⌜ (r ≡ returned (stepOnOf (rulesOf lead) number (now (table .entry)) states operations (now (shared .entry)) loom))
-        × (now (shared .exit) ≡ left (stepOnOf (rulesOf lead) number (now (table .entry)) states operations (now (shared .entry)) loom)) ⌝ }
+    ensures { λ r. ⌜ (r ≡ returnedOf (rulesOf lead) number (now (table .entry)) states operations (now (shared .entry)) loom)
+        × (now (shared .exit) ≡ leftOf (rulesOf lead) number (now (table .entry)) states operations (now (shared .entry)) loom) ⌝ }
 {
     let outcome = group::step_on(lead, number, table, states, operations, *shared, loom);
     *shared = outcome.shared;
@@ -37,6 +40,8 @@ pub fn step_lent(
     }
 }
 
+// The same for a caller that has the record by value: it is held in a local, lent to `step_lent`, and handed back with the answer. It
+// says what `group::step_on` says, and can stand in its place.
 pub fn stepped_through(
     shared: Shared,
     lead: Lead,

@@ -61,6 +61,7 @@ use Rattle.group.proofs.step_on.Symbol.{name as #group·step-on}
 use Rattle.group.proofs.step_on.Met as step-on-thm
 use Rattle.lent.specs.declared.Lent.{Lent}
 use Rattle.lent.specs.Lent.{returned, left}
+use Rattle.lent.proofs.Passed.{Passed, passed-vals, shared-vals, lead-vals, loom-vals, table-val, PassedTypes, Table, Facts, table-twice, owned-again}
 use Rattle.lent.proofs.Lent as T
 use Rattle.lent.proofs.Lent.Laws as T′
 use Rattle.lent.proofs.step_lent.Key.{name as #lent·step-lent}
@@ -69,47 +70,50 @@ use Rattle.lent.proofs.step_lent.Statement as stated
 use Rattle.lent.proofs.step_lent.Code as code
 
 abbrev stayed : Stays (step-lent.ended .signature .params) (step-lent.ended .kept)
-stayed =
-    (stay-ref (0 ∷ []) tt (plain (λ _. S.the-row)), (stay-none (λ _. L.the-row) yes, (stay-none (λ _. u32) yes, (stay-none-slice (1 ∷ []) tt (plain (λ _. u8)) yes,
-    (stay-none (λ _. usize) yes, (stay-none (λ _. usize) yes, (stay-none (λ _. O.the-row) yes, tt)))))))
+stayed = (
+  stay-ref (0 ∷ []) tt (plain (λ _. S.the-row)),
+  (
+    stay-none (λ _. L.the-row) yes,
+    (
+      stay-none (λ _. u32) yes,
+      (
+        stay-none-slice (1 ∷ []) tt (plain (λ _. u8)) yes,
+        (stay-none (λ _. usize) yes, (stay-none (λ _. usize) yes, (stay-none (λ _. O.the-row) yes, tt))),
+      ),
+    ),
+  ),
+)
 
 -- the contract that the proof cites
 abbrev StepOn : {M : Type 1} (𝓤 : URA M) (H : Heap 𝓤) (A : Atoms 𝓤) (mem : Memory → SProp 𝓤) (run : Routine → Fun 𝓤) → Contract 𝓤
 StepOn 𝓤 H A mem run = tripleOf 𝓤 H A step-on.signature (step-on.spec 𝓤 H A mem run)
 
--- the machine values of a record, of the rules and of a loom
-abbrev at-shared : Shared → List Val
-at-shared = LL.vals S.the-type S′.the-laws
+-- of an outcome whose type is known: what the step returns, and the record that it leaves
+abbrev lent-val : Outcome → Val
+lent-val r = LL.val T.the-type T′.the-laws (returned r)
 
-abbrev at-lead : Lead → List Val
-at-lead = LL.vals L.the-type L′.the-laws
-
-abbrev at-loom : Loom → List Val
-at-loom = LL.vals O.the-type O′.the-laws
-
--- what the step returns, of what `step_on` comes to; and that its fields are what their types ask
-lent-is : (r : Outcome) (vs : List Val) → Is R.the-row r vs → Is T.the-row (returned r) (LL.vals T.the-type T′.the-laws (returned r))
+lent-is : (r : Outcome) (vs : List Val) → Is R.the-row r vs → Is T.the-row (returned r) (lent-val r ∷ [])
 lent-is r vs is =
     let fields = LL.owed R.the-type R′.the-laws r vs is in
     LL.owes T.the-type T′.the-laws (returned r) (fields .0, (fields .1 .0, (fields .1 .1 .1 .0, tt)))
 
-shared-is : (r : Outcome) (vs : List Val) → Is R.the-row r vs → Is S.the-row (r .shared) (at-shared (r .shared))
-shared-is r vs is = LL.owed R.the-type R′.the-laws r vs is .1 .1 .0
+left-is : (r : Outcome) (vs : List Val) → Is R.the-row r vs → Is S.the-row (left r) (shared-vals (left r))
+left-is r vs is = LL.owed R.the-type R′.the-laws r vs is .1 .1 .0
 
 module _ {M : Type 1} (𝓤 : URA M) (H : Heap 𝓤) (A : Atoms 𝓤) (W : Given 𝓤 H A) (at-mem : Memory → SProp 𝓤) (run : Routine → Fun 𝓤) (κ κ′ : Lft) (q q′ : Share) (b o : ℕ) (γ : GName) (h : Shared) (lead : Lead) (number : ℕ) (s : RefT (List ℕ)) (states operations : ℕ) (loom : Loom) where
-  -- the machine value of the table's slice
-  abbrev v : Val
-  v = sliceVal (s .ptr) (length (s .now))
+  -- the parameters after the record
+  abbrev p : Passed
+  p = (lead, (number, (s, (states, (operations, (loom, tt))))))
 
   abbrev x : Args step-lent.signature (κ, (κ′, tt))
-  x = (record { ptr = (b, o); name = γ; now = h }, (lead, (number, (s, (states, (operations, (loom, tt)))))))
+  x = (record { ptr = (b, o); name = γ; now = h }, p)
 
   abbrev at : Vals step-lent.signature (κ, (κ′, tt))
-  at = (vptr b o ∷ [], (at-lead lead, (vint w32 number ∷ [], (v ∷ [], (vint w64 states ∷ [], (vint w64 operations ∷ [], (at-loom loom, tt)))))))
+  at = (vptr b o ∷ [], passed-vals p)
 
-  -- what is known of the parameters after the record
-  abbrev Given-facts : Type 0
-  Given-facts = Is L.the-row lead (at-lead lead) × (Is u32 number (vint w32 number ∷ []) × (Is (ShrSlice (named 1) κ′ u8) s (v ∷ []) × (Is usize states (vint w64 states ∷ []) × (Is usize operations (vint w64 operations ∷ []) × (Is O.the-row loom (at-loom loom) × Unit {0})))))
+  -- the same as the machine passes them
+  abbrev values : List Val
+  values = vptr b o ∷ LL.val L.the-type L′.the-laws lead ∷ vint w32 number ∷ table-val s ∷ vint w64 states ∷ vint w64 operations ∷ LL.val O.the-type O′.the-laws loom ∷ []
 
   abbrev found : Outcome
   found = stepOnOf (rulesOf lead) number (now s) states operations h loom
@@ -118,78 +122,73 @@ module _ {M : Type 1} (𝓤 : URA M) (H : Heap 𝓤) (A : Atoms 𝓤) (W : Given
   Post = walkOf 𝓤 H A step-lent.ended stayed (step-lent.clauses 𝓤 H A at-mem run) .post (((κ, (κ′, tt)), (q, (q′, tt)), tt, x, at), tt)
 
   abbrev Own : Fml
-  Own = ShrSlice (named 1) κ′ u8 .own s (v ∷ [])
+  Own = Table (named 1) κ′ s
 
   -- what the callee is passed
-  abbrev passed : Args step-on.signature (κ′, tt)
-  passed = (lead, (number, (s, (states, (operations, (h, (loom, tt)))))))
+  abbrev y : Args step-on.signature (κ′, tt)
+  y = (lead, (number, (s, (states, (operations, (h, (loom, tt)))))))
 
-  abbrev passed-at : Vals step-on.signature (κ′, tt)
-  passed-at = (at-lead lead, (vint w32 number ∷ [], (v ∷ [], (vint w64 states ∷ [], (vint w64 operations ∷ [], (at-shared h, (at-loom loom, tt)))))))
+  abbrev y-at : Vals step-on.signature (κ′, tt)
+  y-at = (lead-vals lead, (vint w32 number ∷ [], (table-val s ∷ [], (vint w64 states ∷ [], (vint w64 operations ∷ [], (shared-vals h, (loom-vals loom, tt)))))))
 
   abbrev to : StepOn 𝓤 H A at-mem run .Ghost
-  to = (((κ′, tt), (q′, tt), tt, passed, passed-at), tt)
+  to = (((κ′, tt), (q′, tt), tt, y, y-at), tt)
 
-  asked : ent 𝓤 (onEntry 𝓤 H A step-on.signature (κ′, tt) (q′, tt) passed passed-at) (StepOn 𝓤 H A at-mem run .pre to)
-  asked = qed W ((‵ (flft κ′ q′) ⊛ ‵ ftrue) ∷ ‵ (owns (L.the-row ∷ u32 ∷ ShrSlice (named 0) κ′ u8 ∷ usize ∷ usize ∷ S.the-row ∷ O.the-row ∷ []) passed passed-at) ∷ []) ∵ join ! $ frame ! $ done !
+  asked : ent 𝓤 (onEntry 𝓤 H A step-on.signature (κ′, tt) (q′, tt) y y-at) (StepOn 𝓤 H A at-mem run .pre to)
+  asked = qed W ((‵ (flft κ′ q′) ⊛ ‵ ftrue) ∷ ‵ (owns (L.the-row ∷ u32 ∷ ShrSlice (named 0) κ′ u8 ∷ usize ∷ usize ∷ S.the-row ∷ O.the-row ∷ []) y y-at) ∷ []) ∵ join ! $ frame ! $ done !
 
   -- what the parameters own gives what the callee asks, and the slice's part is kept
-  apart : Given-facts → Is S.the-row h (at-shared h)
-      → ent 𝓤 (⋆ 𝓤 H A ((‵ (flft κ′ q′) ⊛ ‵ ftrue) ∷ ‵ (owns (L.the-row ∷ u32 ∷ ShrSlice (named 1) κ′ u8 ∷ usize ∷ usize ∷ O.the-row ∷ []) (x .1) (at .1)) ∷ [])) (sep 𝓤 (StepOn 𝓤 H A at-mem run .pre to) (sem 𝓤 H A Own))
+  apart : Facts (named 1) κ′ p → Is S.the-row h (shared-vals h)
+      → ent 𝓤 (⋆ 𝓤 H A ((‵ (flft κ′ q′) ⊛ ‵ ftrue) ∷ ‵ (owns (PassedTypes (named 1) κ′) p (passed-vals p)) ∷ [])) (sep 𝓤 (StepOn 𝓤 H A at-mem run .pre to) (sem 𝓤 H A Own))
   apart are was =
-      qed W ((‵ (flft κ′ q′) ⊛ ‵ ftrue) ∷ ‵ (owns (L.the-row ∷ u32 ∷ ShrSlice (named 1) κ′ u8 ∷ usize ∷ usize ∷ O.the-row ∷ []) (x .1) (at .1)) ∷ []) ∵
-      move ! (1 ∷ []) $ fsplit ! $ drop ! $ fsplit ! $ drop ! $ fsplit ! $ move ! (1 ∷ []) $ drop ! $ use1 W (‵ Own ⊛ ‵ Own) (shr-slice-copy 𝓤 H A W (named 1) κ′ u8 .twice s (v ∷ [])) $ split ! $
+      qed W ((‵ (flft κ′ q′) ⊛ ‵ ftrue) ∷ ‵ (owns (PassedTypes (named 1) κ′) p (passed-vals p)) ∷ []) ∵ move ! (1 ∷ []) $ use1 W (‵ Own ⊛ ‵ Own) (table-twice (named 1) κ′ 𝓤 H A W p) $ split ! $
       nothing ! $ owned ! O.the-row (Is O.the-row) (LL.makes O.the-type O′.the-plain 𝓤 H A) loom _ (are .1 .1 .1 .1 .1 .0) $ fjoin ! $ owned ! S.the-row (Is S.the-row) (LL.makes S.the-type S′.the-plain 𝓤 H A) h _ was $ fjoin ! $
       owned ! usize (Is usize) (uint-makes 𝓤 H A W w64) operations _ (are .1 .1 .1 .1 .0) $ fjoin ! $ owned ! usize (Is usize) (uint-makes 𝓤 H A W w64) states _ (are .1 .1 .1 .0) $ fjoin ! $
       move ! (1 ∷ 0 ∷ []) $ fjoin ! $ owned ! u32 (Is u32) (uint-makes 𝓤 H A W w32) number _ (are .1 .0) $ fjoin ! $ owned ! L.the-row (Is L.the-row) (LL.makes L.the-type L′.the-plain 𝓤 H A) lead _ (are .0) $ fjoin ! $
       move ! (2 ∷ 0 ∷ []) $ use2 W (raw (StepOn 𝓤 H A at-mem run .pre to)) asked $ frame ! $ done !
 
   -- of the callee's `ensured`, the clause alone: it has no `&mut`, so what is said of last values is dropped
-  said : (r : Outcome) → ent 𝓤 (ensured 𝓤 H A step-on.ended (step-on.clauses 𝓤 H A at-mem run) (κ′, tt) passed tt r) (fact 𝓤 (r ≡ found))
-  said r = exE 𝓤 _ (λ ws. snd∗ 𝓤 (sem 𝓤 H A (lasts step-on.ended (κ′, tt) passed ws)) (fact 𝓤 (r ≡ found)))
+  said : (r : Outcome) → ent 𝓤 (ensured 𝓤 H A step-on.ended (step-on.clauses 𝓤 H A at-mem run) (κ′, tt) y tt r) (fact 𝓤 (r ≡ found))
+  said r = exE 𝓤 _ (λ ws. snd∗ 𝓤 (sem 𝓤 H A (lasts step-on.ended (κ′, tt) y ws)) (fact 𝓤 (r ≡ found)))
 
-  exits : Given-facts → (r : Outcome) → r ≡ found → Is T.the-row (returned r) (LL.vals T.the-type T′.the-laws (returned r))
-      → ent 𝓤 (⋆ 𝓤 H A (‵ (fobs γ (S.the-row .coded .code (r .shared))) ∷ ‵ (fbor κ (Body (mem S.the-row) b o γ)) ∷ ‵ (flft κ q) ∷ (‵ (flft κ′ q′) ⊛ ‵ ftrue) ∷ ‵ Own ∷ [])) (Post (LL.val T.the-type T′.the-laws (returned r)))
+  exits : Facts (named 1) κ′ p → (r : Outcome) → r ≡ found → Is T.the-row (returned r) (lent-val r ∷ [])
+      → ent 𝓤 (⋆ 𝓤 H A (‵ (fobs γ (S.the-row .coded .code (left r))) ∷ ‵ (fbor κ (Body (mem S.the-row) b o γ)) ∷ ‵ (flft κ q) ∷ (‵ (flft κ′ q′) ⊛ ‵ ftrue) ∷ ‵ Own ∷ [])) (Post (lent-val r))
   exits are r e is =
-      qed W (‵ (fobs γ (S.the-row .coded .code (r .shared))) ∷ ‵ (fbor κ (Body (mem S.the-row) b o γ)) ∷ ‵ (flft κ q) ∷ (‵ (flft κ′ q′) ⊛ ‵ ftrue) ∷ ‵ Own ∷ []) ∵
-      suffices ! _ (ends-at 𝓤 H A step-lent.ended stayed (step-lent.clauses 𝓤 H A at-mem run) W (((κ, (κ′, tt)), (q, (q′, tt)), tt, x, at), tt) (LL.val T.the-type T′.the-laws (returned r)) (returned r)
-      (r .shared, (tt, (tt, (tt, (tt, (tt, (tt, tt))))))) (tt, (tt, (tt, (tt, (tt, (tt, (tt, tt)))))))) $ says ! (ap returned e, ap left e) $
+      qed W (‵ (fobs γ (S.the-row .coded .code (left r))) ∷ ‵ (fbor κ (Body (mem S.the-row) b o γ)) ∷ ‵ (flft κ q) ∷ (‵ (flft κ′ q′) ⊛ ‵ ftrue) ∷ ‵ Own ∷ []) ∵
+      suffices ! _ (ends-at 𝓤 H A step-lent.ended stayed (step-lent.clauses 𝓤 H A at-mem run) W (((κ, (κ′, tt)), (q, (q′, tt)), tt, x, at), tt) (lent-val r) (returned r)
+      (left r, (tt, (tt, (tt, (tt, (tt, (tt, tt))))))) (tt, (tt, (tt, (tt, (tt, (tt, (tt, tt)))))))) $ says ! (ap returned e, ap left e) $
       move ! (2 ∷ 3 ∷ []) $ join ! $ frame ! $ feqI ! (List Val) (vptr b o ∷ []) (vptr b o ∷ []) refl $ fjoin3 ! $
       -- [what the record's borrow owns; what the slice owns]
-      nothing ! $ owned ! O.the-row (Is O.the-row) (LL.makes O.the-type O′.the-plain 𝓤 H A) loom _ (are .1 .1 .1 .1 .1 .0) $ fjoin ! $
-      owned ! usize (Is usize) (uint-makes 𝓤 H A W w64) operations _ (are .1 .1 .1 .1 .0) $ fjoin ! $ owned ! usize (Is usize) (uint-makes 𝓤 H A W w64) states _ (are .1 .1 .1 .0) $ fjoin ! $
-      move ! (2 ∷ 0 ∷ []) $ fjoin ! $ owned ! u32 (Is u32) (uint-makes 𝓤 H A W w32) number _ (are .1 .0) $ fjoin ! $ owned ! L.the-row (Is L.the-row) (LL.makes L.the-type L′.the-plain 𝓤 H A) lead _ (are .0) $ fjoin ! $
-      move ! (1 ∷ 0 ∷ []) $ fjoin ! $ frame ! $ owned ! T.the-row (Is T.the-row) (LL.makes T.the-type T′.the-plain 𝓤 H A) (returned r) _ is $ done !
+      move ! (1 ∷ []) $ use1 W (‵ (owns (PassedTypes (named 1) κ′) p (passed-vals p))) (owned-again (named 1) κ′ 𝓤 H A W p are) $ move ! (1 ∷ 0 ∷ []) $ fjoin ! $ frame ! $
+      owned ! T.the-row (Is T.the-row) (LL.makes T.the-type T′.the-plain 𝓤 H A) (returned r) _ is $ done !
 
   module _ (C : Calls 𝓤 H) (Λ : Loops 𝓤 H) (fm : FmC 𝓤 H (W .laws) C) (known : Triple 𝓤 (C #group·step-on) (StepOn 𝓤 H A at-mem run)) where
-    walk : Given-facts → ent 𝓤 (onEntry 𝓤 H A step-lent.signature (κ, (κ′, tt)) (q, (q′, tt)) x at)
-        (WpFn 𝓤 H C Λ code.function (vptr b o ∷ LL.val L.the-type L′.the-laws lead ∷ vint w32 number ∷ v ∷ vint w64 states ∷ vint w64 operations ∷ LL.val O.the-type O′.the-laws loom ∷ []) Post)
+    walk : Facts (named 1) κ′ p → ent 𝓤 (onEntry 𝓤 H A step-lent.signature (κ, (κ′, tt)) (q, (q′, tt)) x at) (WpFn 𝓤 H C Λ code.function values Post)
     walk are =
-        qed W ((‵ (flft κ q) ⊛ ‵ (flft κ′ q′) ⊛ ‵ ftrue) ∷ ‵ (owns (MutRef (named 0) κ S.the-row ∷ L.the-row ∷ u32 ∷ ShrSlice (named 1) κ′ u8 ∷ usize ∷ usize ∷ O.the-row ∷ []) x at) ∷ []) ∵
-        enter ! C Λ code.function (vptr b o ∷ LL.val L.the-type L′.the-laws lead ∷ vint w32 number ∷ v ∷ vint w64 states ∷ vint w64 operations ∷ LL.val O.the-type O′.the-laws loom ∷ []) _ $
+        qed W ((‵ (flft κ q) ⊛ ‵ (flft κ′ q′) ⊛ ‵ ftrue) ∷ ‵ (owns (MutRef (named 0) κ S.the-row ∷ PassedTypes (named 1) κ′) x at) ∷ []) ∵ enter ! C Λ code.function values _ $
         alloc1 ! (λ l₀. alloc1 ! (λ l₁. alloc1 ! (λ l₂. alloc1 ! (λ l₃. alloc1 ! (λ l₄. alloc1 ! (λ l₅. alloc1 ! (λ l₆. alloc1 ! (λ l₇. alloc1 ! (λ l₈. alloc1 ! (λ l₉. alloc0 ! $ params1 ! $
         pass1 ! (init ! 16 refl (tt, tt)) $ pass1 ! (init ! 14 refl (LL.lawful L.the-type L′.the-laws 𝓤 H A W .typed lead _ (are .0) .0)) $ pass1 ! (init ! 12 refl (tt, record { fits = are .1 .0 .1 })) $
-        pass1 ! (init ! 10 refl (shr-slice-lawful 𝓤 H A W (named 1) κ′ u8 .typed s (v ∷ []) (are .1 .1 .0) .0)) $ pass1 ! (init ! 8 refl (tt, record { fits = are .1 .1 .1 .0 .1 })) $ pass1 ! (init ! 6 refl (tt, record { fits = are .1 .1 .1 .1 .0 .1 })) $
+        pass1 ! (init ! 10 refl (shr-slice-lawful 𝓤 H A W (named 1) κ′ u8 .typed s _ (are .1 .1 .0) .0)) $ pass1 ! (init ! 8 refl (tt, record { fits = are .1 .1 .1 .0 .1 })) $ pass1 ! (init ! 6 refl (tt, record { fits = are .1 .1 .1 .1 .0 .1 })) $
         pass1 ! (init ! 4 refl (LL.lawful O.the-type O′.the-laws 𝓤 H A W .typed loom _ (are .1 .1 .1 .1 .1 .0) .0)) $ pass0 ! $
         -- the borrow is opened, and the record is copied
         move ! (21 ∷ []) $ fsplit ! $ fsplit3 ! $ drop ! $ move ! (23 ∷ []) $ split ! $ move ! (2 ∷ 3 ∷ 0 ∷ []) $
-        opens ! tt S.the-row {h = h} b o (λ vs. spelt ! S.the-row (Is S.the-row) (shows 𝓤 H A S.the-row) at-shared (LL.tells S.the-type S′.the-laws) fullShare h vs b o $
-        move ! (1 ∷ []) $ peeks ! S.the-row (Is S.the-row) (shows 𝓤 H A S.the-row) h (at-shared h) (λ was. move ! (1 ∷ 0 ∷ []) $
+        opens ! tt S.the-row {h = h} b o (λ vs. spelt ! S.the-row (Is S.the-row) (shows 𝓤 H A S.the-row) shared-vals (LL.tells S.the-type S′.the-laws) fullShare h vs b o $
+        move ! (1 ∷ []) $ peeks ! S.the-row (Is S.the-row) (shows 𝓤 H A S.the-row) h (shared-vals h) (λ was. move ! (1 ∷ 0 ∷ []) $
         -- [the record's cell; what it owns; the open borrow; obs; auth; the slice's token; the others'; _9; …; _8; …; _7; …; _6; …; _5; …; _4; …; _3; …; _2; …; _1; …; room for _0; …]
         assigns ! (of-opd ! (load ! (from ! (hop ! (look ! 23 refl) (stop !))) (look-raw ! 0 refl))) (from ! (stop !)) (init ! 7 refl (LL.lawful S.the-type S′.the-laws 𝓤 H A W .typed h _ was .0)) $
         move ! (5 ∷ 6 ∷ []) $ use2 W (raw (StepOn 𝓤 H A at-mem run .pre to) ⊛ ‵ Own) (apart are was) $ split ! $
         calls-at ! fm (StepOn 𝓤 H A at-mem run) known to (and-then ! (load ! (from ! (stop !)) (look ! 21 refl)) (and-then ! (load ! (from ! (stop !)) (look ! 19 refl)) (and-then ! (load ! (from ! (stop !)) (look ! 17 refl)) (and-then ! (load ! (from ! (stop !)) (look ! 15 refl))
         (and-then ! (load ! (from ! (stop !)) (look ! 13 refl)) (and-then ! (load ! (from ! (stop !)) (look ! 7 refl)) (and-then ! (load ! (from ! (stop !)) (look ! 11 refl)) (no-more !)))))))) (λ u.
-        use1 W (later (some (λ (r : Outcome). ((‵ (flft κ′ q′) ⊛ ‵ ftrue) ⊛ ‵ (R.the-row .own r (u ∷ []))) ⊛ raw (ensured 𝓤 H A step-on.ended (step-on.clauses 𝓤 H A at-mem run) (κ′, tt) passed tt r)))) (id⊢ 𝓤 _) $ await ! tt $ pick ! (λ r.
+        use1 W (later (some (λ (r : Outcome). ((‵ (flft κ′ q′) ⊛ ‵ ftrue) ⊛ ‵ (R.the-row .own r (u ∷ []))) ⊛ raw (ensured 𝓤 H A step-on.ended (step-on.clauses 𝓤 H A at-mem run) (κ′, tt) y tt r)))) (id⊢ 𝓤 _) $ await ! tt $ pick ! (λ r.
         split ! $ move ! (1 ∷ []) $ use1 W (raw (fact 𝓤 (r ≡ found))) (said r) $ heard ! (r ≡ found) (λ e. split ! $ move ! (1 ∷ []) $
         -- [the outcome; the slice's token; what it owns; the record's cell; what it owned; the open borrow; obs; auth; _9; …; room for _8; …; _7; …; _6; …; _5; …; _4; …; _3; …; _2; …; _1; …; room for _0; …]
         peeks ! R.the-row (Is R.the-row) (shows 𝓤 H A R.the-row) r (u ∷ []) (λ is.
         land ! (from ! (stop !)) (init ! 10 refl (LL.lawful R.the-type R′.the-laws 𝓤 H A W .typed r _ is .0)) $ rewrite ! 10 (λ (w : Val). ‵ (fat fullShare R′.mir l₈ 0 w)) (ap only (LL.tells R.the-type R′.the-laws r _ is)) refl $
-        assigns ! (of-opd ! (load ! (from ! (fld ! refl (stop !))) (look-in ! 10 (sub ! 2 refl (whole !))))) (from ! (hop ! (look ! 24 refl) (stop !))) (store-raw ! 3 refl (LL.lawful S.the-type S′.the-laws 𝓤 H A W .typed (r .shared) _ (shared-is r _ is) .0)) $
+        assigns ! (of-opd ! (load ! (from ! (fld ! refl (stop !))) (look-in ! 10 (sub ! 2 refl (whole !))))) (from ! (hop ! (look ! 24 refl) (stop !))) (store-raw ! 3 refl (LL.lawful S.the-type S′.the-laws 𝓤 H A W .typed (left r) _ (left-is r _ is) .0)) $
         assigns ! (agg ! (and-then ! (load ! (from ! (fld ! refl (stop !))) (look-in ! 10 (sub ! 0 refl (whole !)))) (and-then ! (load ! (from ! (fld ! refl (stop !))) (look-in ! 10 (sub ! 1 refl (whole !)))) (and-then ! (load ! (from ! (fld ! refl (stop !))) (look-in ! 10 (sub ! 3 refl (whole !)))) (no-more !)))))
         (from ! (stop !)) (init ! 26 refl (LL.lawful T.the-type T′.the-laws 𝓤 H A W .typed (returned r) _ (lent-is r _ is) .0)) $
         -- the borrow is closed at the record as the step leaves it
-        drop ! $ move ! (3 ∷ []) $ drop ! $ owned ! S.the-row (Is S.the-row) (LL.makes S.the-type S′.the-plain 𝓤 H A) (r .shared) _ (shared-is r _ is) $ move ! (3 ∷ 0 ∷ 4 ∷ 5 ∷ 6 ∷ []) $ closes ! tt S.the-row (r .shared) (at-shared (r .shared)) b o $
+        drop ! $ move ! (3 ∷ []) $ drop ! $ owned ! S.the-row (Is S.the-row) (LL.makes S.the-type S′.the-plain 𝓤 H A) (left r) _ (left-is r _ is) $ move ! (3 ∷ 0 ∷ 4 ∷ 5 ∷ 6 ∷ []) $ closes ! tt S.the-row (left r) (shared-vals (left r)) b o $
         returns ! (look ! 23 refl) $ forget ! 5 refl $ forget ! 7 refl $ forget ! 9 refl $ forget ! 11 refl $ forget ! 13 refl $ forget ! 15 refl $ forget ! 17 refl $ forget ! 19 refl $ forget ! 21 refl $ forget ! 23 refl $
         move ! (23 ∷ 24 ∷ []) $ free1 ! $ move ! (21 ∷ 22 ∷ []) $ free1 ! $ move ! (19 ∷ 20 ∷ []) $ free1 ! $ move ! (17 ∷ 18 ∷ []) $ free1 ! $ move ! (15 ∷ 16 ∷ []) $ free1 ! $ move ! (13 ∷ 14 ∷ []) $ free1 ! $ move ! (11 ∷ 12 ∷ []) $ free1 ! $ move ! (9 ∷ 10 ∷ []) $ free1 ! $ move ! (7 ∷ 8 ∷ []) $ free1 ! $ move ! (5 ∷ 6 ∷ []) $ free1 ! $ free0 ! $
         by ! (exits are r e (lent-is r _ is))))))))))))))))))
@@ -197,13 +196,24 @@ module _ {M : Type 1} (𝓤 : URA M) (H : Heap 𝓤) (A : Atoms 𝓤) (W : Given
 module _ {M : Type 1} (𝓤 : URA M) (H : Heap 𝓤) (A : Atoms 𝓤) (W : Given 𝓤 H A) (mem : Memory → SProp 𝓤) (run : Routine → Fun 𝓤) where
   step-lent-walks : (C : Calls 𝓤 H) (Λ : Loops 𝓤 H) → FmC 𝓤 H (W .laws) C → Triple 𝓤 (C #group·step-on) (StepOn 𝓤 H A mem run) → Walks 𝓤 H A step-lent.ended stayed (WpFn 𝓤 H C Λ code.function) (step-lent.clauses 𝓤 H A mem run)
   step-lent-walks C Λ fm known = walked 𝓤 H A step-lent.ended stayed (step-lent.clauses 𝓤 H A mem run) (WpFn 𝓤 H C Λ code.function)
-      (λ κs. (ptr-vals, (at-lead, (uint-vals w32, (slice-vals, (uint-vals w64, (uint-vals w64, (at-loom, tt)))))))) (λ κs. (mut-tells (named 0) (κs .0) S.the-row, (LL.tells L.the-type L′.the-laws, (uint-tells w32, (shr-slice-tells (named 1) (κs .1 .0) u8, (uint-tells w64, (uint-tells w64, (LL.tells O.the-type O′.the-laws, tt))))))))
+      (λ κs. (ptr-vals, (lead-vals, (uint-vals w32, (slice-vals, (uint-vals w64, (uint-vals w64, (loom-vals, tt)))))))) (λ κs. (mut-tells (named 0) (κs .0) S.the-row, (LL.tells L.the-type L′.the-laws, (uint-tells w32, (shr-slice-tells (named 1) (κs .1 .0) u8, (uint-tells w64, (uint-tells w64, (LL.tells O.the-type O′.the-laws, tt))))))))
       (λ κs qs bounds a _ are. via 𝓤 _ (fst∗ 𝓤 _ (emp 𝓤))
       (walk 𝓤 H A W mem run (κs .0) (κs .1 .0) (qs .0) (qs .1 .0) (a .0 .ptr .0) (a .0 .ptr .1) (a .0 .name) (a .0 .now) (a .1 .0) (a .1 .1 .0) (a .1 .1 .1 .0) (a .1 .1 .1 .1 .0) (a .1 .1 .1 .1 .1 .0) (a .1 .1 .1 .1 .1 .1 .0) C Λ fm known (are .1)))
 
   goes : AllGo 𝓤 H A W 2 (step-lent.signature .params) (step-lent.ended .kept) stayed
-  goes = (goes-ref 𝓤 H A W 2 0 tt (plain (λ _. S.the-row)), (goes-none 𝓤 H A W 2 (λ _. L.the-row) yes (λ κs x f. refl), (goes-none 𝓤 H A W 2 (λ _. u32) yes (λ κs x f. refl), (goes-none-slice 𝓤 H A W 2 (1 ∷ []) tt (plain (λ _. u8)) yes,
-      (goes-none 𝓤 H A W 2 (λ _. usize) yes (λ κs x f. refl), (goes-none 𝓤 H A W 2 (λ _. usize) yes (λ κs x f. refl), (goes-none 𝓤 H A W 2 (λ _. O.the-row) yes (λ κs x f. refl), tt)))))))
+  goes = (
+    goes-ref 𝓤 H A W 2 0 tt (plain (λ _. S.the-row)),
+    (
+      goes-none 𝓤 H A W 2 (λ _. L.the-row) yes (λ κs x f. refl),
+      (
+        goes-none 𝓤 H A W 2 (λ _. u32) yes (λ κs x f. refl),
+        (
+          goes-none-slice 𝓤 H A W 2 (1 ∷ []) tt (plain (λ _. u8)) yes,
+          (goes-none 𝓤 H A W 2 (λ _. usize) yes (λ κs x f. refl), (goes-none 𝓤 H A W 2 (λ _. usize) yes (λ κs x f. refl), (goes-none 𝓤 H A W 2 (λ _. O.the-row) yes (λ κs x f. refl), tt))),
+        ),
+      ),
+    ),
+  )
 
 step-lent-meets : {M : Type 1} (𝓤 : URA M) (H : Heap 𝓤) (A : Atoms 𝓤) → Given 𝓤 H A → (mem : Memory → SProp 𝓤) (run : Routine → Fun 𝓤) (𝓣 : Tables 𝓤 H) → Triple 𝓤 (𝓣 .C #group·step-on) (StepOn 𝓤 H A mem run)
     → Meets 𝓤 H A step-lent.signature (WpFn 𝓤 H (𝓣 .C) (𝓣 .Λ) code.function) (step-lent.spec 𝓤 H A mem run)
