@@ -30,6 +30,8 @@ u8 linuktabay_open(const u8 *table, u64 length, u64 states, u64 operations, u64 
 u8 linuktabay_step(const u8 *table, u64 length, u64 states, u64 operations, u64 loom, u64 group[41], u64 out[4]);
 u8 linuktabay_restart(u64 loom, u64 group[41]);
 u8 linuktabay_restart_all(u64 group[41]);
+void linuktabay_read(const u8 *file, u64 length, u8 *table, u64 entries, u8 *schedule, u64 acts, u64 out[30]);
+u64 linuktabay_label(const u8 *a, u64 length_a, const u8 *b, u64 length_b, u64 side);
 
 enum { ROOM = 1 << 20 };
 
@@ -208,6 +210,24 @@ static void restart(u8 function) {
     say_numbers(group, 41);
 }
 
+static void read_order(void) {
+    struct bytes file = bytes(), table = bytes(), schedule = bytes();
+    u64 out[30] = {0};
+    linuktabay_read(file.first, file.length, table.first, table.length, schedule.first, schedule.length, out);
+    say_numbers(out, 30);
+    say_bytes(table);
+    say_bytes(schedule);
+}
+
+/* The part lies at the beginning of its side's label, of A's for no side: the library's contract says so. */
+static void label(void) {
+    struct bytes a = bytes(), b = bytes();
+    u64 side = number();
+    say(side == 1);
+    say(0);
+    say(linuktabay_label(a.first, a.length, b.first, b.length, side));
+}
+
 static void answer_call(void) {
     u8 function = *taken(1);
     switch (function) {
@@ -220,6 +240,8 @@ static void answer_call(void) {
     case 30: return open_group();
     case 31: return step();
     case 32: case 33: return restart(function);
+    case 50: return read_order();
+    case 60: return label();
     default: STOP("driver: no such function");
     }
 }

@@ -1,4 +1,5 @@
 pub mod Numbers
 pub mod Groups
 pub mod Certificates
+pub mod Orders
 pub mod Only

@@ -176,7 +176,7 @@ fn with_board(n: [usize; 41], group: Group) -> [usize; 41]
 }
 
 // The numbers with all of the group's written.
-fn with_group(n: [usize; 41], group: Group) -> [usize; 41]
+pub fn with_group(n: [usize; 41], group: Group) -> [usize; 41]
     ensures { λ r. ⌜ r ≡ withGroup n group ⌝ }
 {
     let looms = group.looms;

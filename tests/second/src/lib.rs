@@ -15,6 +15,7 @@ pub mod cell;
 pub mod recording;
 pub mod group;
 pub mod schedule;
+pub mod log;
 pub mod order;
 pub mod label;
 pub mod hall;

@@ -148,6 +148,18 @@ impl Session {
         }
     }
 
+    /// How far the trial is, for whoever waits.
+    pub fn show(&self, how_far: &str) {
+        self.driver.entitle(format!("{}, {}, {how_far}", self.floor, self.trial));
+    }
+
+    /// Something on which the two programs agree and which is wrong all the same.
+    pub fn wrong(&mut self, what: &str) -> Go {
+        self.differences += 1;
+        println!("WRONG in {}, {}: {what}", self.floor, self.trial);
+        self.take(Vec::new())
+    }
+
     pub fn saw(&mut self, subject: &'static str, number: u64) {
         self.tally.saw(subject, number);
     }
@@ -173,6 +185,11 @@ impl Session {
             return Err(Stopped);
         }
         Ok(())
+    }
+
+    /// How many differences were found, wrong things that both agree on among them.
+    pub fn differences(&self) -> usize {
+        self.differences
     }
 
     /// The last line; true if all passed.

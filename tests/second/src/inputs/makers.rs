@@ -7,7 +7,7 @@ use crate::limits;
 use crate::recording::{Certificate, Seat};
 
 /// A size up to the limit, small ones as often as all others.
-fn sized(dice: &mut Dice, low: usize, high: usize) -> usize {
+pub(super) fn sized(dice: &mut Dice, low: usize, high: usize) -> usize {
     let small = high.min(low + 4);
     let top = dice.pick(&[small, high]);
     dice.between(low, top)
@@ -40,7 +40,7 @@ fn seated(
 }
 
 /// Any table, any certificate that has form.
-fn uniform(dice: &mut Dice) -> Fitting {
+pub(super) fn uniform(dice: &mut Dice) -> Fitting {
     let states = sized(dice, 1, *limits::STATES.end());
     let operations = sized(dice, 1, *limits::OPERATIONS.end());
     let count = dice.between(2, limits::SEATS);
@@ -52,11 +52,12 @@ fn uniform(dice: &mut Dice) -> Fitting {
 }
 
 /// States that remember which side came first. Operations with even numbers belong to A, odd ones
-/// to B; an operation of the other side may lead back to the start once in `returns` entries.
+/// to B; in a state of the other side, an operation of side X leads back to the start once in
+/// `returns[X]` entries.
 struct Sided {
     start: usize,
     homes: [Vec<usize>; 2],
-    returns: usize,
+    returns: [usize; 2],
 }
 
 impl Sided {
@@ -67,29 +68,44 @@ impl Sided {
     fn entry(&self, dice: &mut Dice, operation: usize, state: usize) -> u8 {
         let side = operation % 2;
         let home = self.home_of(state).unwrap_or(side);
-        let back = state != self.start && home != side && dice.once_in(self.returns);
+        let back = state != self.start && home != side && dice.once_in(self.returns[side]);
         let next = if back { self.start } else { dice.pick(&self.homes[home]) };
         next as u8
     }
 }
 
-/// A cell that mostly fits: accepted, unless a return to the start breaks it.
-fn sided(dice: &mut Dice) -> Fitting {
+/// Such a cell of any size, with a certificate of these sides over it.
+fn sided_cell(dice: &mut Dice, sides: Vec<usize>, returns: [usize; 2]) -> Fitting {
     let states = sized(dice, 3, *limits::STATES.end());
     let operations = sized(dice, 2, *limits::OPERATIONS.end());
-    let count = dice.between(2, limits::SEATS);
-    let mut order: Vec<usize> = (0..states).collect();
-    dice.shuffle(&mut order);
+    let order = shuffled(dice, states);
     let cut = dice.between(2, states - 1);
     let homes = [order[1..cut].to_vec(), order[cut..].to_vec()];
-    let returns = dice.pick(&[1, 3, 10, usize::MAX]);
     let plan = Sided { start: order[0], homes, returns };
     let table =
         (0..states * operations).map(|at| plan.entry(dice, at / states, at % states)).collect();
-    let sides = sides(dice, count);
     let own = |dice: &mut Dice, side: usize| side + 2 * dice.below((operations - side).div_ceil(2));
     let certificate = seated(dice, plan.start, &sides, own);
     Fitting { table, states, operations, certificate }
+}
+
+/// A cell that mostly fits: accepted, unless a return to the start breaks it.
+pub(super) fn sided(dice: &mut Dice) -> Fitting {
+    let count = dice.between(2, limits::SEATS);
+    let returns = dice.pick(&[1, 3, 10, usize::MAX]);
+    let sides = sides(dice, count);
+    sided_cell(dice, sides, [returns; 2])
+}
+
+/// A cell that always fits, and that one side's only loom may lead back to its start.
+pub(super) fn returning(dice: &mut Dice) -> Fitting {
+    let count = dice.between(2, limits::SEATS);
+    let (alone, loom) = (dice.below(2), dice.below(count));
+    let mut sides = vec![1 - alone; count];
+    sides[loom] = alone;
+    let mut returns = [usize::MAX; 2];
+    returns[alone] = dice.pick(&[1, 2, 5]);
+    sided_cell(dice, sides, returns)
 }
 
 /// A cell of two operations hidden in a larger one: its states and operations get other names, and
@@ -116,7 +132,7 @@ fn hidden(dice: &mut Dice, table: &[u8]) -> Hidden {
     Hidden { table: larger, states, operations, state_names, operation_names }
 }
 
-fn shuffled(dice: &mut Dice, count: usize) -> Vec<usize> {
+pub(super) fn shuffled(dice: &mut Dice, count: usize) -> Vec<usize> {
     let mut names: Vec<usize> = (0..count).collect();
     dice.shuffle(&mut names);
     names
@@ -163,7 +179,7 @@ fn late(dice: &mut Dice) -> Fitting {
 }
 
 /// One entry changed to another state.
-fn altered(dice: &mut Dice, mut fitting: Fitting) -> Fitting {
+pub fn altered(dice: &mut Dice, mut fitting: Fitting) -> Fitting {
     let at = dice.below(fitting.table.len());
     fitting.table[at] = dice.below(fitting.states) as u8;
     fitting

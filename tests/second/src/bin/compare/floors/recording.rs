@@ -5,8 +5,7 @@ use second::asking::asks::{self, marked_words};
 use second::asking::session::{Go, Needs, Session};
 use second::inputs::dice::Dice;
 use second::inputs::fitting::{self, Fitting};
-use second::inputs::{known, makers};
-use second::recording::{Certificate, Seat};
+use second::inputs::{known, makers, small};
 
 pub const NEEDS: Needs = &[
     ("check", &[0, 2, 3, 4, 5, 6, 7, 8, 9, 20, 21, 22, 40]),
@@ -16,13 +15,13 @@ pub const NEEDS: Needs = &[
 
 pub fn trials(session: &mut Session) -> Go {
     session.trial("every table of up to three states, two looms", |session, _| {
-        sweep(session, UP_TO_THREE_STATES, 2)
+        sweep(session, small::UP_TO_THREE_STATES, 2)
     })?;
     session.trial("every table of up to three states, three looms", |session, _| {
-        sweep(session, UP_TO_THREE_STATES, 3)
+        sweep(session, small::UP_TO_THREE_STATES, 3)
     })?;
     session.trial("every table of up to two states, four looms", |session, _| {
-        sweep(session, UP_TO_TWO_STATES, 4)
+        sweep(session, small::UP_TO_TWO_STATES, 4)
     })?;
     session.trial("the known certificates", known_certificates)?;
     session.trial("the catalogue cells and their parts", catalogue_cells)?;
@@ -41,52 +40,10 @@ fn ask(session: &mut Session, fitting: &Fitting, area: usize) -> Go {
     Ok(())
 }
 
-/// The digits of a number in a base, the lowest first.
-fn digits(mut number: usize, base: usize, count: usize) -> Vec<usize> {
-    (0..count)
-        .map(|_| {
-            let digit = number % base;
-            number /= base;
-            digit
-        })
-        .collect()
-}
-
-/// Sizes of cells, as states and operations.
-type Sizes = &'static [(usize, usize)];
-
-const UP_TO_THREE_STATES: Sizes = &[(1, 1), (1, 2), (2, 1), (2, 2), (3, 1), (3, 2)];
-const UP_TO_TWO_STATES: Sizes = &[(1, 1), (1, 2), (2, 1), (2, 2)];
-
-/// The sweep is complete: every table of these sizes, each with every start, every choice of sides
-/// (those that leave a side without a loom included) and every choice of operations for the looms.
-/// Up to three states there are 778 tables: 35,880 calls with two looms, 142,800 with three.
-fn sweep(session: &mut Session, sizes: Sizes, looms: usize) -> Go {
-    for &(states, operations) in sizes {
-        let entries = states * operations;
-        for number in 0..states.pow(entries as u32) {
-            let table = digits(number, states, entries).iter().map(|&entry| entry as u8).collect();
-            let certificate = Certificate { count: looms, ..Certificate::default() };
-            sweep_table(session, Fitting { table, states, operations, certificate })?;
-        }
-    }
-    Ok(())
-}
-
-/// Every certificate of the table's looms. The area is one word longer than it need be.
-fn sweep_table(session: &mut Session, mut fitting: Fitting) -> Go {
-    let looms = fitting.certificate.count;
-    let choices = 2 * fitting.operations;
-    let seatings = choices.pow(looms as u32);
-    let area = fitting.area_words() + 1;
-    for number in 0..fitting.states * seatings {
-        fitting.certificate.start = number / seatings;
-        for (loom, choice) in digits(number % seatings, choices, looms).into_iter().enumerate() {
-            fitting.certificate.seats[loom] = Seat { side: choice % 2, operation: choice / 2 };
-        }
-        ask(session, &fitting, area)?;
-    }
-    Ok(())
+/// Complete, and the area one word longer than it need be.
+fn sweep(session: &mut Session, sizes: small::Sizes, looms: usize) -> Go {
+    small::fittings(sizes, looms)
+        .try_for_each(|fitting| ask(session, &fitting, fitting.area_words() + 1))
 }
 
 fn known_certificates(session: &mut Session, _: &mut Dice) -> Go {
