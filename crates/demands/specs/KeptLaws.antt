@@ -1,11 +1,11 @@
 -- No act changes more than the shared memory, and the looms' places and counts.
 -- Assumes nothing.
 use Prim.Native.Nat.{ℕ, zero, suc}
-use mathlib.Core.Path.{_≡_, refl, ap, sym, _∙_}
+use mathlib.Core.Path.{refl, _∙_}
 use mathlib.Core.Bool.{Bool, true, false}
 use mathlib.Core.List.{List, [], _∷_}
 use lib.Dec.{eqb}
-use lib.ListN.{length, getD, set, length-set}
+use lib.ListN.{getD, set, length-set}
 use Rattle.cell.specs.Table.{entryOf}
 use Rattle.loom.specs.declared.Loom.{Loom}
 use Rattle.loom.specs.declared.Shared.{Shared}

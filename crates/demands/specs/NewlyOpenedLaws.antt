@@ -25,7 +25,7 @@ use Rattle.group.specs.declared.Numbers.{Numbers}
 use Rattle.group.specs.declared.Group.{Group}
 use Rattle.group.specs.Group.{loomAt, numberOf, groupRules}
 use Rattle.group.specs.Step.{stepOf}
-use Rattle.demands.specs.Acts.{Act, loomSteps, loomRestarts, allRestart, History, untouched, historyAfter, groupAfter, eventsAfter}
+use Rattle.demands.specs.Acts.{Act, loomSteps, loomRestarts, allRestart, untouched, historyAfter, groupAfter, eventsAfter}
 use Rattle.demands.specs.Fits.{Fits}
 use Rattle.demands.specs.Pictured.{numbered, allNumbered, Pictured}
 use Rattle.demands.specs.PicturedLaws.{rules-of-seats, Along, along-always}

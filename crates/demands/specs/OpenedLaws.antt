@@ -3,32 +3,29 @@
 use Prim.Native.Nat.{ℕ, _≤_, _<_}
 use native.Mathlib.Omega.{arith}
 use native.Mathlib.Decide.{decLt, ℕ-discrete}
-use mathlib.Core.Path.{_≡_, refl, ap, sym, subst, _∙_}
+use mathlib.Core.Path.{_≡_, refl, ap, sym, _∙_}
 use mathlib.Core.Bool.{Bool, true, false, not}
-use mathlib.Core.Logic.{_↔_}
 use mathlib.Core.List.{List}
 use lib.Dec.{eqb}
-use lib.ListN.{length, getD, take, length-take, List·getD-eq-default}
+use lib.ListN.{length, getD, length-take, List·getD-eq-default}
 use lib.Seq.{getD-take}
 use borrow.Author.Tests.{eqb-true, eqb-false}
-use Rattle.sets.specs.Sets.{bit}
 use Rattle.cell.specs.Table.{either, entryOf}
 use Rattle.recording.specs.declared.Seat.{Seat}
 use Rattle.recording.specs.declared.Certificate.{Certificate}
 use Rattle.recording.specs.declared.Judged.{Judged}
-use Rattle.recording.specs.Recording.{emptySeat, sideAt, operationAt, InSet, Recording}
-use Rattle.recording.specs.Check.{loomsOf, faultOf, judgedOf, checkOf, firstMisfit}
+use Rattle.recording.specs.Recording.{emptySeat, sideAt, operationAt, Recording}
+use Rattle.recording.specs.Check.{loomsOf, faultOf, judgedOf, checkOf}
 use Rattle.recording.specs.CheckLaws.{judged-refused}
 use Rattle.recording.specs.AdmittedLaws.{Admitted, admitted, all-fitted, fitting}
-use Rattle.recording.specs.Accepted.{set-is-Q, sets-given, accepted}
+use Rattle.recording.specs.Accepted.{check-says}
+use Rattle.recording.specs.AcceptedLaws.{sets-given}
 use Rattle.loom.specs.declared.Side.{Side}
 use Rattle.loom.specs.declared.Side.the-variants.{A, B}
 use Rattle.loom.specs.declared.Loom.{Loom}
-use Rattle.loom.specs.Sides.{sideNumber}
-use Rattle.agreement.specs.Machine.{Filled, sideOf}
+use Rattle.agreement.specs.Machine.{Filled}
 use Rattle.group.specs.declared.Numbers.{Numbers}
-use Rattle.group.specs.declared.Opened.{Opened}
-use Rattle.group.specs.Group.{emptyLoom, setOf, numberOf}
+use Rattle.group.specs.Group.{emptyLoom, numberOf}
 use Rattle.group.specs.Open.{loomOf, slotsOf, freshGroup, unopened, opened, pickOpened, setsFrom, openedBy, openOf}
 use Rattle.group.specs.OpenLaws.{slots-length, slot-of-seat}
 use Rattle.demands.specs.Fits.{Seated, WellFormed}
@@ -93,11 +90,11 @@ module _ (table : List ℕ) (states operations : ℕ) (c : Certificate) (room : 
 
   is-recording : Recording (entryOf table states) (loomsOf c) (c .start)
   unfolding checkOf
-  is-recording = accepted table states operations c room past .0 accepting
+  is-recording = check-says table states operations c room past .accepted .0 accepting
 
   are-sets : AreSets (entryOf table states) (loomsOf c) (c .start) (setsFrom (judgedOf table states operations c room))
-  are-sets A q = rw (sets-given table states operations c room past .0) (set-is-Q table states operations c room past 0 q)
-  are-sets B q = rw (sets-given table states operations c room past .1) (set-is-Q table states operations c room past 1 q)
+  are-sets A q = rw (sets-given table states operations c room past .0) (check-says table states operations c room past .members 0 q)
+  are-sets B q = rw (sets-given table states operations c room past .1) (check-says table states operations c room past .members 1 q)
 
   -- Loom k of the group that opens is that of seat k.
   slot-is-seat : (k : ℕ) → k < length (loomsOf c) → getD (slotsOf (c .count) (c .seats)) k emptyLoom ≡ loomOf (getD (loomsOf c) k emptySeat)

@@ -1,16 +1,16 @@
 -- Every act on a group that fits is the same act of the machine of looms.
 -- Assumes nothing.
-use Prim.Native.Nat.{ℕ, zero, suc, _+_, _≤_, _<_, suc-le-suc}
+use Prim.Native.Nat.{ℕ, zero, suc, _≤_, _<_, suc-le-suc}
 use native.Mathlib.Nat.{le-of-suc-le-suc, not-suc-le-zero, zero-lt-suc}
 use native.Mathlib.Omega.{arith}
 use native.Mathlib.Decide.{decLt}
-use mathlib.Core.Path.{_≡_, refl, ap, sym, subst, _∙_}
+use mathlib.Core.Path.{_≡_, refl, ap, sym, _∙_}
 use mathlib.Core.Bool.{Bool, true, false, cond}
 use mathlib.Core.List.{List, [], _∷_}
 use lib.Dec.{eqb}
-use lib.ListN.{length, getD, take, set, length-set}
+use lib.ListN.{length, getD, take, set}
 use lib.Seq.{getD-set-same, getD-set-other}
-use borrow.Author.Tests.{eqb-true, eqb-false, eq-eqb}
+use borrow.Author.Tests.{eqb-true, eqb-false}
 use Rattle.cell.specs.Table.{pick, entryOf}
 use Rattle.recording.specs.declared.Seat.{Seat}
 use Rattle.recording.specs.Recording.{sideAt, operationAt, one, sideCount}
@@ -21,19 +21,19 @@ use Rattle.loom.specs.declared.Place.the-variants.{Begin, Posted, Looking, Read
 use Rattle.loom.specs.declared.Loom.{Loom}
 use Rattle.loom.specs.declared.Shared.{Shared}
 use Rattle.loom.specs.Sides.{sideNumber, sideFrom, sameSide, register}
-use Rattle.loom.specs.Turn.{Rules, Turn, turnOf}
+use Rattle.loom.specs.Turn.{Rules, turnOf}
 use Rattle.loom.specs.Looms.{movedTo, restartedOf}
-use Rattle.agreement.specs.Machine.{Event, step, State, sideOf, changedAt, withPost, withSaid, turned, steppedFrom, stepped, acted, after}
+use Rattle.agreement.specs.Machine.{Event, step, State, sideOf, changedAt, withPost, turned, steppedFrom, stepped, acted, after}
 use Rattle.agreement.specs.MachineLaws.{changed-other, stepped-no-loom, stepped-loom, stepped-answered}
 use Rattle.agreement.specs.LogLaws.{register-written}
 use Rattle.group.specs.declared.Group.{Group}
-use Rattle.group.specs.Group.{emptyLoom, loomAt, numberOf, countOf, yieldingOf, leadOf, groupRules, withLoom, withShared, restartedAt, restartedBelow}
-use Rattle.group.specs.Step.{hasAnswered, stepOf, restartOf, restartAllOf}
+use Rattle.group.specs.Group.{emptyLoom, loomAt, numberOf, countOf, yieldingOf, leadOf, groupRules, withLoom, withShared, restartedBelow}
+use Rattle.group.specs.Step.{hasAnswered, stepOf}
 use Rattle.demands.specs.Acts.{Act, loomSteps, loomRestarts, allRestart, History, noted, steppedTo, actedOn, historyAfter}
 use Rattle.demands.specs.Kept.{Kept}
 use Rattle.demands.specs.KeptLaws.{kept-restarted-below, kept-by-act}
 use Rattle.demands.specs.Fits.{Seated, WellFormed, Fits}
-use Rattle.demands.specs.FitsLaws.{turnIn, movedOn, turnTaken, shared-restarted-below, step-of-none, step-of-answered, step-of-unanswered, restart-of-none, restart-of-one, restart-of-all, fits-by-act}
+use Rattle.demands.specs.FitsLaws.{turnIn, shared-restarted-below, step-of-none, step-of-answered, step-of-unanswered, restart-of-none, restart-of-one, restart-of-all, fits-by-act}
 use Rattle.demands.specs.Pictured.{rulesBy, numbered, allNumbered, Pictured}
 
 -- A loom of the side is counted in either way.

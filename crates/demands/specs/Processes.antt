@@ -9,9 +9,8 @@ use Rattle.cell.specs.Table.{entryOf}
 use Rattle.recording.specs.declared.Seat.{Seat}
 use Rattle.loom.specs.Sides.{other, register}
 use Rattle.loom.specs.Turn.{Rules}
-use Rattle.agreement.specs.Figure.{System, Setting, ran, initial}
+use Rattle.agreement.specs.Figure.{System, Setting}
 use Rattle.agreement.specs.Matched.{settingOf, number, placeOf, answersOf, returnsOf}
-use Rattle.agreement.specs.Machine.{Act as MachineAct}
 use Rattle.group.specs.declared.Group.{Group}
 use Rattle.group.specs.Group.{loomAt, groupRules}
 use Rattle.demands.specs.Acts.{History}

@@ -1,8 +1,7 @@
 -- Rules made from Q_A, Q_B and the start of a recording certificate render it.
 -- Assumes nothing.
 use Prim.Native.Nat.{ℕ}
-use native.Mathlib.Omega.{arith}
-use mathlib.Core.Path.{_≡_, refl, ap, sym, _∙_}
+use mathlib.Core.Path.{_≡_, refl}
 use mathlib.Core.Bool.{Bool, true, false}
 use mathlib.Core.Logic.{_↔_}
 use mathlib.Core.List.{List}
@@ -10,10 +9,10 @@ use lib.Dec.{eqb}
 use borrow.Author.Tests.{eq-eqb, eqb-true, eqb-false}
 use Rattle.sets.specs.Sets.{bit, hasOf}
 use Rattle.recording.specs.declared.Seat.{Seat}
-use Rattle.recording.specs.Recording.{sideCount, InSet, Recording}
+use Rattle.recording.specs.Recording.{InSet, Recording}
 use Rattle.loom.specs.declared.Side.{Side}
 use Rattle.loom.specs.declared.Side.the-variants.{A, B}
-use Rattle.loom.specs.Sides.{sideNumber, other}
+use Rattle.loom.specs.Sides.{sideNumber}
 use Rattle.loom.specs.Turn.{pickSide}
 use Rattle.agreement.specs.Teams.{other-other}
 use Rattle.agreement.specs.Fitted.{Renders}

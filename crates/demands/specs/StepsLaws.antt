@@ -3,7 +3,7 @@
 use Prim.Native.Nat.{ℕ, zero, suc, _+_, _≤_, _<_}
 use native.Mathlib.Omega.{arith}
 use native.Mathlib.Decide.{decLt}
-use mathlib.Core.Path.{_≡_, refl, ap, sym, _∙_}
+use mathlib.Core.Path.{_≡_, refl, ap}
 use mathlib.Core.Bool.{Bool, true, false}
 use mathlib.Core.List.{List, [], _∷_}
 use lib.Dec.{eqb, eqb→eq}
@@ -17,16 +17,15 @@ use Rattle.loom.specs.declared.Side.{Side}
 use Rattle.loom.specs.declared.Place.{Place}
 use Rattle.loom.specs.declared.Place.the-variants.{Begin, Posted, Looking, Ready, Applied, Bound, Answered}
 use Rattle.loom.specs.declared.Loom.{Loom}
-use Rattle.loom.specs.Looms.{counted, movedTo, restartedOf}
+use Rattle.loom.specs.Looms.{movedTo, restartedOf}
 use Rattle.agreement.specs.Steps.{unanswered, stepsOf as machineSteps, Unrestarted as MachineUnrestarted}
 use Rattle.agreement.specs.StepsLaws.{rank, rank-at-most-six, rank-rises}
 use Rattle.group.specs.declared.Group.{Group}
 use Rattle.group.specs.Group.{emptyLoom, loomAt, numberOf, groupRules, withLoom, withShared, restartedBelow}
 use Rattle.group.specs.Step.{hasAnswered, stepOf, restartOf, restartAllOf}
 use Rattle.demands.specs.Acts.{Act, loomSteps, loomRestarts, allRestart, History, actedOn, historyAfter}
-use Rattle.demands.specs.Kept.{Kept}
 use Rattle.demands.specs.KeptLaws.{kept-restarted-below}
-use Rattle.demands.specs.Fits.{Seated, WellFormed, Fits}
+use Rattle.demands.specs.Fits.{WellFormed, Fits}
 use Rattle.demands.specs.FitsLaws.{turnIn, step-of-none, step-of-answered, step-of-unanswered, restart-of-none, restart-of-one, restart-of-all, fits-by-act}
 use Rattle.demands.specs.Pictured.{numbered, allNumbered}
 use Rattle.demands.specs.Steps.{stepsOf, Unrestarted}
