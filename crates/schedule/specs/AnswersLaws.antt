@@ -32,7 +32,7 @@ use Rattle.schedule.specs.Counts.{answersFor, answerMark, howMany, isRea
 use Rattle.schedule.specs.CountsLaws.{first-named, fits-acted}
 
 -- A mark of a side's answer adds one to that side's answers.
-answers-in-act : (s : Side) (r : Ran) (x : Acted) → answersFor s (withActed r x) ≡ answersFor s r + pick (eqb (x .mark) (answerMark s)) 1 0
+pub answers-in-act : (s : Side) (r : Ran) (x : Acted) → answersFor s (withActed r x) ≡ answersFor s r + pick (eqb (x .mark) (answerMark s)) 1 0
 unfolding withActed
 answers-in-act A r x = refl
 answers-in-act B r x = refl

@@ -10,3 +10,5 @@ pub mod CountsLaws
 pub mod LongestLaws
 pub mod AnswersLaws
 pub mod Only
+pub mod Events
+pub mod EventsLaws
