@@ -12,3 +12,5 @@ pub mod AnswersLaws
 pub mod Only
 pub mod Events
 pub mod EventsLaws
+pub mod RunCountsLaws
+pub mod RunCounts
