@@ -24,7 +24,7 @@ use Rattle.agreement.specs.LogLaws.{had-latest, had-still}
 use Rattle.group.specs.declared.Group.{Group}
 use Rattle.group.specs.Group.{loomAt}
 use Rattle.group.specs.Step.{hasAnswered, stepOf}
-use Rattle.demands.specs.Acts.{Act as Done, loomSteps, loomRestarts, allRestart, History, noted, actedOn, historyAfter}
+use Rattle.demands.specs.Acts.{Act as Done, loomSteps, loomRestarts, allRestart, History, noted, actedOn, historyAfter, untouched}
 use Rattle.demands.specs.Fits.{WellFormed, Fits}
 use Rattle.demands.specs.FitsLaws.{turnIn, turnTaken, step-of-answered, step-of-unanswered}
 use Rattle.schedule.specs.declared.Act.{Act}
@@ -32,11 +32,11 @@ use Rattle.schedule.specs.declared.Act.the-variants.{Step, Restart, Rest
 use Rattle.schedule.specs.declared.Acted.{Acted}
 use Rattle.schedule.specs.declared.Ran.{Ran}
 use Rattle.schedule.specs.Acts.{actOf, isNamed, allNamed}
-use Rattle.schedule.specs.Played.{markOf, withActed, actedOf, playedOf}
+use Rattle.schedule.specs.Played.{markOf, begun, withActed, actedOf, playedOf}
 use Rattle.schedule.specs.Counts.{answersFor, answerMark, groupAfter}
 use Rattle.schedule.specs.Events.{doneBefore, doneBy, answersIn, applicationsIn}
 use Rattle.schedule.specs.CountsLaws.{first-named, fits-acted}
-use Rattle.schedule.specs.AnswersLaws.{answers-in-act}
+use Rattle.schedule.specs.AnswersLaws.{none-at-first, answers-in-act}
 
 -- A post adds no answer and no application.
 answers-posted : (s : Side) (k : ℕ) (t : Side) (v : ℕ) (p : Place) (log : List Event) → answersIn s (withPost k t v p log) ≡ answersIn s log
@@ -196,6 +196,11 @@ module _ (table : List ℕ) (states operations : ℕ) where
       pub fits : Fits states looms (h .group)
       pub answers : (s : Side) → answersFor s r ≡ answersIn s (h .log)
       pub applications : r .applied ≡ applicationsIn (h .log)
+
+    -- They begin alike, and each act keeps them so.
+    pub alike-at-first : (g : Group) → Fits states looms g → Alike (begun g) (untouched g)
+    unfolding answersIn applicationsIn
+    alike-at-first g fits = record { group = refl; fits = fits; answers = none-at-first g; applications = refl }
 
     alike-next : (r : Ran) (h : History) → Alike r h → (act : Act) → isNamed (length looms) act ≡ true →
         Alike (withActed r (actedOf table states operations (r .group) act)) (after act h)

@@ -14,3 +14,5 @@ pub mod Events
 pub mod EventsLaws
 pub mod RunCountsLaws
 pub mod RunCounts
+pub mod SizeTwoRun
+pub mod DemandThreeOfRun

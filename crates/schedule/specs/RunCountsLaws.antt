@@ -12,7 +12,6 @@ use Rattle.recording.specs.declared.Certificate.{Certificate}
 use Rattle.recording.specs.Recording.{sideCount}
 use Rattle.recording.specs.Check.{loomsOf}
 use Rattle.loom.specs.declared.Side.{Side}
-use Rattle.loom.specs.declared.Side.the-variants.{A, B}
 use Rattle.group.specs.declared.Numbers.{Numbers}
 use Rattle.group.specs.declared.Group.{Group}
 use Rattle.group.specs.Group.{loomAt}
@@ -27,7 +26,7 @@ use Rattle.schedule.specs.Counts.{answersFor, answerMark, howMany, count
 use Rattle.schedule.specs.Events.{doneBy}
 use Rattle.schedule.specs.CountsLaws.{steps-over}
 use Rattle.schedule.specs.LongestLaws.{named-prefix, marks-of-prefix, group-of-run, longest-bounds, longest-attained, Moment}
-use Rattle.schedule.specs.AnswersLaws.{answers-over, applied-over}
+use Rattle.schedule.specs.AnswersLaws.{none-at-first, answers-over, applied-over}
 use Rattle.schedule.specs.EventsLaws.{group-after-acts}
 
 -- A side with a loom has a loom.
@@ -41,11 +40,6 @@ unfolding playedOf withActed
 entries-over table states operations r [] = omega arith
 entries-over table states operations r (e ∷ es) =
     omega (arith, entries-over table states operations (withActed r (actedOf table states operations (r .group) (actOf e))) es)
-
--- A run begins with no answer for either side.
-none-at-first : (s : Side) (g : Group) → answersFor s (begun g) ≡ 0
-none-at-first A g = refl
-none-at-first B g = refl
 
 module _ {table : List ℕ} {states operations : ℕ} {c : Certificate} {numbers : Numbers} {g : Group}
     (new : NewlyOpened table states operations c numbers g) (schedule : List ℕ) (all : allNamed (g .count) schedule ≡ true) where
@@ -114,7 +108,7 @@ module _ {table : List ℕ} {states operations : ℕ} {c : Certificate} {numbers
       omega (arith, six-so-far (take i schedule) k here, same)
 
   pub played-answers : (s : Side) → answersFor s played ≡ howMany (answerMark s) marks
-  played-answers s = omega (arith, answers-over table states operations s (begun g) schedule, none-at-first s g)
+  played-answers s = omega (arith, answers-over table states operations s (begun g) schedule, none-at-first g s)
 
   pub played-applied : played .applied ≡ appliedOver table states operations g schedule
   played-applied = omega (arith, applied-over table states operations (loomsOf c) (new .good) schedule (begun g) fits named)
