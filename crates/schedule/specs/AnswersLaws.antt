@@ -27,12 +27,17 @@ use Rattle.schedule.specs.declared.Act.the-variants.{Step, Restart, Rest
 use Rattle.schedule.specs.declared.Acted.{Acted}
 use Rattle.schedule.specs.declared.Ran.{Ran}
 use Rattle.schedule.specs.Acts.{actOf, isNamed, allNamed}
-use Rattle.schedule.specs.Played.{withActed, actedOf, playedOf, marksOf}
+use Rattle.schedule.specs.Played.{begun, withActed, actedOf, playedOf, marksOf}
 use Rattle.schedule.specs.Counts.{answersFor, answerMark, howMany, isReady, applies, appliedOver}
 use Rattle.schedule.specs.CountsLaws.{first-named, fits-acted}
 
+-- A run begins with no answer for either side.
+pub none-at-first : (g : Group) (s : Side) → answersFor s (begun g) ≡ 0
+none-at-first g A = refl
+none-at-first g B = refl
+
 -- A mark of a side's answer adds one to that side's answers.
-answers-in-act : (s : Side) (r : Ran) (x : Acted) → answersFor s (withActed r x) ≡ answersFor s r + pick (eqb (x .mark) (answerMark s)) 1 0
+pub answers-in-act : (s : Side) (r : Ran) (x : Acted) → answersFor s (withActed r x) ≡ answersFor s r + pick (eqb (x .mark) (answerMark s)) 1 0
 unfolding withActed
 answers-in-act A r x = refl
 answers-in-act B r x = refl

@@ -1,9 +1,11 @@
 -- What is counted over a schedule and its marks: document 01, "One loom's steps", "Schedules" and "Forms for parts of the code".
 -- Assumes nothing.
-use Prim.Native.Nat.{ℕ, _+_, min}
+use Prim.Native.Nat.{ℕ, _+_, _≤_, _<_, min}
+use mathlib.Core.Path.{_≡_}
 use mathlib.Core.Bool.{Bool, true, false, not}
 use mathlib.Core.List.{List, [], _∷_}
 use lib.Dec.{eqb}
+use lib.ListN.{length, take}
 use Rattle.cell.specs.Table.{both, pick}
 use Rattle.loom.specs.declared.Side.{Side}
 use Rattle.loom.specs.declared.Side.the-variants.{A, B}
@@ -49,6 +51,12 @@ stepsOver k (e ∷ es) (m ∷ marks) c = stepsOver k es marks (stepsAfter k (act
 -- "The number of this loom's steps since it opened or last restarted, refused ones not counted; it stops at 255."
 abbrev pub countOver : ℕ → List ℕ → List ℕ → ℕ
 countOver k schedule marks = min (stepsOver k schedule marks 0) mostSteps
+
+-- "The longest run: the largest step count that any loom had at any moment." A moment is the end of a part of the schedule from its
+-- beginning; the looms are those below n.
+pub record IsLongest (n : ℕ) (schedule marks : List ℕ) (longest : ℕ) : Type 0 where
+  pub bounds : (i k : ℕ) → k < n → countOver k (take i schedule) (take i marks) ≤ longest
+  pub attained : (i : ℕ) × (k : ℕ) × (i ≤ length schedule) × (k < n) × (countOver k (take i schedule) (take i marks) ≡ longest)
 
 -- "ready: applies its operation to the cell": whether an act on a group is a step of a loom at ready.
 abbrev pub isReady : Place → Bool

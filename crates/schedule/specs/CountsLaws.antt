@@ -2,7 +2,6 @@
 -- Assumes nothing.
 use Prim.Native.Nat.{ℕ, zero, suc, _+_, _≤_, _<_, min, max}
 use native.Mathlib.Omega.{arith}
-use native.Mathlib.Decide.{decLe}
 use mathlib.Core.Path.{_≡_, refl, ap, sym, subst, _∙_}
 use mathlib.Core.Bool.{Bool, true, false}
 use mathlib.Core.List.{List, [], _∷_}
@@ -11,11 +10,7 @@ use lib.ListN.{length, take}
 use borrow.Author.Tests.{ltb-true}
 use Rattle.cell.specs.Table.{both, pick, entryOf}
 use Rattle.recording.specs.declared.Seat.{Seat}
-use Rattle.loom.specs.declared.Place.{Place}
-use Rattle.loom.specs.declared.Place.the-variants.{Begin, Posted, Looking, Ready, Applied, Bound, Answered}
 use Rattle.loom.specs.Looms.{mostSteps, counted, movedTo, restartedOf}
-use Rattle.agreement.specs.Steps.{unanswered}
-use Rattle.agreement.specs.StepsLaws.{rank, rank-rises}
 use Rattle.group.specs.declared.Group.{Group}
 use Rattle.group.specs.Group.{loomAt, numberOf, groupRules, withShared}
 use Rattle.group.specs.Step.{hasAnswered, stepOf}
@@ -40,17 +35,7 @@ first-named n e es = by-test (isNamed n (actOf e))
     by-test true rest = (refl, rest)
     by-test false rest = let z : _≡_ {A = ℕ} 0 1 = cc in absurd (omega arith)
 
--- A loom that has not answered is unanswered.
-still-going : (p : Place) → hasAnswered p ≡ false → unanswered p ≡ true
-still-going Begin going = refl
-still-going Posted going = refl
-still-going Looking going = refl
-still-going Ready going = refl
-still-going Applied going = refl
-still-going (Bound x) going = refl
-still-going (Answered x) going = sym going
-
--- One act: the loom's count goes as the schedule's does, never past the rank of its place, and never past the longest run.
+-- One act: the loom's count goes as the schedule's does, and never past the longest run.
 module _ {table : List ℕ} {states : ℕ} {g : Group} {k : ℕ} {act : Act} {x : Acted} where
   pub counted-in-act : Became table states g k act x → (c : ℕ) → loomAt g k .steps ≡ min c mostSteps →
       loomAt (x .group) k .steps ≡ min (stepsAfter k act (x .mark) c) mostSteps
@@ -58,18 +43,6 @@ module _ {table : List ℕ} {states : ℕ} {g : Group} {k : ℕ} {act : Act} {x 
   counted-in-act (turned moved going steps adds) c so-far =
       ap (λ l. l .steps) moved ∙ (omega (arith, adds c))
   counted-in-act (restarted anew adds) c so-far = ap (λ l. l .steps) anew ∙ omega (arith, adds c)
-
-  pub rank-in-act : Became table states g k act x → loomAt g k .steps ≤ rank (loomAt g k .place) →
-      loomAt (x .group) k .steps ≤ rank (loomAt (x .group) k .place)
-  rank-in-act (stayed same adds) low = rw same low
-  rank-in-act (turned moved going steps adds) low =
-      rw moved
-      (omega (
-        arith,
-        rw (still-going (loomAt g k .place) going) at
-            (rank-rises (groupRules g) (loomAt g k .side) (numberOf (g .numbers) (loomAt g k .side)) (entryOf table states (loomAt g k .operation)) (g .shared) (loomAt g k .place)),
-      ))
-  rank-in-act (restarted anew adds) low = rw anew (omega arith)
 
   pub bound-in-act : Became table states g k act x → (most : ℕ) → loomAt g k .steps ≤ most → loomAt (x .group) k .steps ≤ max most (x .steps)
   bound-in-act (stayed same adds) most low = rw same (omega arith)
@@ -121,13 +94,3 @@ module _ (table : List ℕ) (states operations : ℕ) (looms : List Seat) (good 
         let now = became table states operations looms good g fits k here (actOf e) (both-named .0) in
         steps-over es (actedOf table states operations g (actOf e) .group) (fits-acted g fits (actOf e)) (both-named .1)
         (stepsAfter k (actOf e) (actedOf table states operations g (actOf e) .mark) c) (counted-in-act now c so-far)
-
-    pub rank-over : (es : List ℕ) (g : Group) → Fits states looms g → allNamed (length looms) es ≡ true →
-        loomAt g k .steps ≤ rank (loomAt g k .place) →
-        loomAt (groupAfter table states operations g es) k .steps ≤ rank (loomAt (groupAfter table states operations g es) k .place)
-    unfolding groupAfter
-    rank-over [] g fits named low = low
-    rank-over (e ∷ es) g fits named low =
-        let both-named = first-named (length looms) e es named in
-        let now = became table states operations looms good g fits k here (actOf e) (both-named .0) in
-        rank-over es (actedOf table states operations g (actOf e) .group) (fits-acted g fits (actOf e)) (both-named .1) (rank-in-act now low)

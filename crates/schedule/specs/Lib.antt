@@ -10,3 +10,9 @@ pub mod CountsLaws
 pub mod LongestLaws
 pub mod AnswersLaws
 pub mod Only
+pub mod Events
+pub mod EventsLaws
+pub mod RunCountsLaws
+pub mod RunCounts
+pub mod SizeTwoRun
+pub mod DemandThreeOfRun

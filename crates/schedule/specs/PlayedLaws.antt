@@ -67,6 +67,12 @@ pub bytes-after : (marks first : List ℕ) (i m : ℕ) → drop i marks ≡ drop
 bytes-after marks first i m same =
     drop-set-lt (i + 1) marks i m (omega arith) ∙ (sym (drop-drop 1 i marks) ∙ (ap (drop 1) same ∙ drop-drop 1 i first))
 
+-- A turn of the loop at entry i: the act of that entry came to x on the group of the run r, and the run after it is `new`.
+pub record Turned (table : List ℕ) (states operations : ℕ) (schedule : List ℕ) (i : ℕ) (r : Ran) (x : Acted) (new : Ran) : Type 0 where
+  pub here : i < length schedule
+  pub did : x ≡ actedOf table states operations (r .group) (actOf (getD schedule i 0))
+  pub after : new ≡ withActed r x
+
 module _ (table : List ℕ) (states operations : ℕ) where
   -- The run from entry i on is entry i, and the run from the next on; and so its marks.
   pub played-from : (r : Ran) (schedule : List ℕ) (i : ℕ) → i < length schedule →
@@ -91,35 +97,23 @@ module _ (table : List ℕ) (states operations : ℕ) where
   unfolding marksOf
   marks-past g schedule i past = rw (drop-of-length-le schedule past)
 
-  -- One turn of the loop at entry i: the act that was read, what it came to and the run after it leave the rest to do.
-  module _
-      (r new : Ran)
-      (x : Acted)
-      (act : Act)
-      (schedule : List ℕ)
-      (i : ℕ)
-      (here : i < length schedule)
-      (read : act ≡ actOf (getD schedule i 0))
-      (did : x ≡ actedOf table states operations (r .group) act)
-      (after : new ≡ withActed r x)
-    where
-      did-entry : x ≡ actedOf table states operations (r .group) (actOf (getD schedule i 0))
-      did-entry = did ∙ ap (actedOf table states operations (r .group)) read
+  -- One turn of the loop leaves the rest to do.
+  module _ {schedule : List ℕ} {i : ℕ} {r : Ran} {x : Acted} {new : Ran} (turn : Turned table states operations schedule i r x new) where
+    pub played-next : playedOf table states operations new (drop (i + 1) schedule) ≡ playedOf table states operations r (drop i schedule)
+    played-next =
+        ap (λ y. playedOf table states operations y (drop (i + 1) schedule)) (turn .after ∙ ap (withActed r) (turn .did))
+        ∙ sym (played-from r schedule i (turn .here))
 
-      pub played-next : playedOf table states operations new (drop (i + 1) schedule) ≡ playedOf table states operations r (drop i schedule)
-      played-next =
-          ap (λ y. playedOf table states operations y (drop (i + 1) schedule)) (after ∙ ap (withActed r) did-entry) ∙ sym (played-from r schedule i here)
-
-      pub marks-next : (marks : List ℕ) → i < length marks →
-          take (i + 1) (set marks i (x .mark)) ++ marksOf table states operations (new .group) (drop (i + 1) schedule)
-          ≡ take i marks ++ marksOf table states operations (r .group) (drop i schedule)
-      unfolding withActed
-      marks-next marks room =
-          mark-written marks (marksOf table states operations (new .group) (drop (i + 1) schedule)) i (x .mark) room
-          ∙ ap (λ l. take i marks ++ l)
-          (ap (λ y. x .mark ∷ marksOf table states operations (y .group) (drop (i + 1) schedule)) after
-          ∙ (ap (λ y. y .mark ∷ marksOf table states operations (y .group) (drop (i + 1) schedule)) did-entry
-          ∙ sym (marks-from (r .group) schedule i here)))
+    pub marks-next : (marks : List ℕ) → i < length marks →
+        take (i + 1) (set marks i (x .mark)) ++ marksOf table states operations (new .group) (drop (i + 1) schedule)
+        ≡ take i marks ++ marksOf table states operations (r .group) (drop i schedule)
+    unfolding withActed
+    marks-next marks room =
+        mark-written marks (marksOf table states operations (new .group) (drop (i + 1) schedule)) i (x .mark) room
+        ∙ ap (λ l. take i marks ++ l)
+        (ap (λ y. x .mark ∷ marksOf table states operations (y .group) (drop (i + 1) schedule)) (turn .after)
+        ∙ (ap (λ y. y .mark ∷ marksOf table states operations (y .group) (drop (i + 1) schedule)) (turn .did)
+        ∙ sym (marks-from (r .group) schedule i (turn .here))))
 
   -- At the end the marks written are all marks, and the later bytes are those that were there.
   pub marks-all : (g : Group) (schedule marks first all : List ℕ) (i : ℕ) →

@@ -7,14 +7,14 @@ use mathlib.Core.Bool.{Bool, true, false}
 use mathlib.Core.List.{List, _++_}
 use lib.Dec.{ltb, eqb}
 use lib.ListN.{length, drop}
-use borrow.Author.Tests.{lt-ltb, le-ltb, eq-eqb, ne-eqb, ltb-false, eqb-true}
+use borrow.Author.Tests.{lt-ltb, le-ltb, eq-eqb, ne-eqb, ltb-false, eqb-true, eqb-false}
 use Rattle.cell.specs.Limits.{edition}
 use Rattle.cell.specs.Table.{pick}
 use Rattle.group.specs.declared.Opened.{Opened}
 use Rattle.schedule.specs.declared.Ran.{Ran}
 use Rattle.schedule.specs.Acts.{allNamed}
 use Rattle.schedule.specs.Played.{begun, playedOf, marksOf}
-use Rattle.schedule.specs.Run.{refusalOf, codeOf, unrun, ranOf, markedOf}
+use Rattle.schedule.specs.Run.{refusalOf, codeOf, unrun, pickRan, ranOf, markedOf}
 
 -- What code 0 says of a schedule, for a group of so many looms and a buffer of that length.
 pub record Playable (count : ℕ) (schedule : List ℕ) (room : ℕ) : Type 0 where
@@ -83,6 +83,29 @@ module _ (opened : Opened) (schedule : List ℕ) (room : ℕ) where
         playedOf table states operations (begun (opened .group)) schedule ≡ ranOf table states operations opened schedule room
     unfolding ranOf
     ran-played h = simp (eq-eqb _ _ h)
+
+-- What code 0 says of a run: the group opened, the schedule can be played, and the result is that of playing it.
+pub record Unrefused (table : List ℕ) (states operations : ℕ) (opened : Opened) (schedule : List ℕ) (room : ℕ) : Type 0 where
+  pub opens : opened .code ≡ 0
+  pub plays : Playable (opened .group .count) schedule room
+  pub result : ranOf table states operations opened schedule room ≡ playedOf table states operations (begun (opened .group)) schedule
+
+pub unrefused : (table : List ℕ) (states operations : ℕ) (opened : Opened) (schedule : List ℕ) (room : ℕ) →
+    ranOf table states operations opened schedule room .code ≡ 0 → Unrefused table states operations opened schedule room
+unfolding ranOf
+unrefused table states operations opened schedule room = by-test (eqb (codeOf opened schedule room) 0) refl
+  where
+    by-test : (b : Bool) → eqb (codeOf opened schedule room) 0 ≡ b →
+        pickRan b (playedOf table states operations (begun (opened .group)) schedule) (unrun (codeOf opened schedule room)) .code ≡ 0 →
+        Unrefused table states operations opened schedule room
+    by-test true zero none =
+        let code : codeOf opened schedule room ≡ 0 = eqb-true _ _ zero in
+        record {
+          opens = code-says opened schedule room code .0;
+          plays = code-says opened schedule room code .1;
+          result = sym (ran-played opened schedule room table states operations code);
+        }
+    by-test false other none = absurd (eqb-false _ _ other none)
 
 module _ (table : List ℕ) (states operations : ℕ) (opened : Opened) (schedule marks : List ℕ) where
   pub marked-refused : (codeOf opened schedule (length marks) ≡ 0 → ⊥) → marks ≡ markedOf table states operations opened schedule marks

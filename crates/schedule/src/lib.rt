@@ -328,15 +328,15 @@ fn play(
     ensures { λ r. ⌜ (r ≡ playedOf (now (table .entry)) states operations (begun group) (now (schedule .entry))) × (now (marks .exit) ≡ marksOf (now (table .entry)) states operations group (now (schedule .entry)) ++ drop (length (now (schedule .entry))) (now (marks .entry))) ⌝ }
 {
     let mut ran = begun(group);
-    let mut i = 0;
-    while i < schedule.len() {
-        let entry = schedule[i];
+    let mut taken = 0;
+    while taken < schedule.len() {
+        let entry = schedule[taken];
         let group = ran.group;
         let acted = act_on(group, table, states, operations, act_of(entry));
-        marks[i] = acted.mark;
+        marks[taken] = acted.mark;
         let new = ran.with_acted(acted);
         ran = new;
-        i += 1;
+        taken += 1;
     }
     ran
 }

@@ -10,21 +10,21 @@ use denote.Ref.{now}
 use borrow.Author.Needs.{needs}
 use Rattle.schedule.specs.Acts.{actOf}
 use Rattle.schedule.specs.Played.{begun, withActed, actedOf, playedOf, marksOf}
-use Rattle.schedule.specs.PlayedLaws.{Within, within-none, within-next, played-next, marks-next, bytes-after, played-past, marks-all}
+use Rattle.schedule.specs.PlayedLaws.{Turned, Within, within-none, within-next, played-next, marks-next, bytes-after, played-past, marks-all}
 use Rattle.schedule.proofs.play.Statement.{statement}
 use Rattle.schedule.proofs.play.Tie as tie
 
 abbrev Inv-loop : tie.InvT-loop
-Inv-loop table states operations schedule marks₀ ran₀ i₀ marks ran i =
-    (i ≤ length schedule)
-    × Within i ran
-    × (playedOf table states operations ran (drop i schedule) ≡ playedOf table states operations ran₀ schedule)
-    × (take i marks ++ marksOf table states operations (ran .group) (drop i schedule) ≡ marksOf table states operations (ran₀ .group) schedule)
-    × (drop i marks ≡ drop i marks₀)
+Inv-loop table states operations schedule marks₀ ran₀ taken₀ marks ran taken =
+    (taken ≤ length schedule)
+    × Within taken ran
+    × (playedOf table states operations ran (drop taken schedule) ≡ playedOf table states operations ran₀ schedule)
+    × (take taken marks ++ marksOf table states operations (ran .group) (drop taken schedule) ≡ marksOf table states operations (ran₀ .group) schedule)
+    × (drop taken marks ≡ drop taken marks₀)
     × (length marks ≡ length marks₀)
 
 abbrev μ-loop : tie.MeasureT-loop
-μ-loop table states operations schedule marks₀ ran₀ i₀ marks ran i = length schedule - i
+μ-loop table states operations schedule marks₀ ran₀ taken₀ marks ran taken = length schedule - taken
 
 begun-requires : tie.Need-begun-requires Inv-loop μ-loop
 begun-requires c κs = search needs
@@ -47,26 +47,38 @@ slice-write-marks c = omega arith
 with-acted-requires : tie.Need-with-acted-requires Inv-loop μ-loop
 with-acted-requires c κs = omega arith
 
-add-i : tie.Need-add-i Inv-loop μ-loop
-add-i c = omega (arith, c .before .before .before .before .before .before .before .before .before .before .before .pre)
+add-taken : tie.Need-add-taken Inv-loop μ-loop
+add-taken c = omega (arith, c .before .before .before .before .before .before .before .before .before .before .before .pre)
 
 loop-less : tie.Need-loop-less Inv-loop μ-loop
 loop-less c = omega arith
 
+-- a turn of the loop, from its three calls
+turn : (c : tie.After-with-acted Inv-loop μ-loop) →
+    let l = c .before .before .before .before .before .before .loop in
+    let a = c .before .before .before .before .before .before .before .before .before .before .before .args in
+    Turned (now (a .table)) (a .states) (a .operations) (now (a .schedule)) (l .taken) (l .ran) (c .before .act-on .result) (c .with-acted .result)
+turn c =
+    let l = c .before .before .before .before .before .before .loop in
+    let a = c .before .before .before .before .before .before .before .before .before .before .before .args in
+    record {
+      here = omega arith;
+      did = c .before .act-on .ensures ∙ ap (actedOf (now (a .table)) (a .states) (a .operations) (l .ran .group)) (c .before .before .act-of .ensures);
+      after = c .with-acted .ensures;
+    }
+
 loop-again : tie.Need-loop-again Inv-loop μ-loop
 loop-again c =
     let l = c .before .before .before .before .before .before .loop in
-    let a = c .before .before .before .before .before .before .before .before .before .before .before .args in
-    let inv = l .inv in
-    let here : l .i < length (a .schedule .now) = omega arith in (
+    let start = c .before .before .before .before .before .before .before .before .before .before .before in
+    let a = start .args in
+    let acted = c .before .act-on .result in (
       omega arith,
-      rw (c .with-acted .ensures) (within-next (l .i) (l .ran) (c .before .act-on .result) (inv .1)),
-      played-next (now (a .table)) (a .states) (a .operations) (l .ran) (c .with-acted .result) (c .before .act-on .result) (c .before .before .act-of .result) (a .schedule .now) (l .i) here (c .before .before .act-of .ensures) (c .before .act-on .ensures) (c .with-acted .ensures)
-          ∙ inv .2,
-      marks-next (now (a .table)) (a .states) (a .operations) (l .ran) (c .with-acted .result) (c .before .act-on .result) (c .before .before .act-of .result) (a .schedule .now) (l .i) here (c .before .before .act-of .ensures) (c .before .act-on .ensures) (c .with-acted .ensures) (l .marks) (omega (arith, c .before .before .before .before .before .before .before .before .before .before .before .pre))
-          ∙ inv .3,
-      bytes-after (l .marks) (a .marks .now) (l .i) (c .before .act-on .result .mark) (inv .4),
-      simp length-set (inv .5),
+      rw (c .with-acted .ensures) (within-next (l .taken) (l .ran) acted (l .inv .1)),
+      played-next (now (a .table)) (a .states) (a .operations) (turn c) ∙ l .inv .2,
+      marks-next (now (a .table)) (a .states) (a .operations) (turn c) (l .marks) (omega (arith, start .pre)) ∙ l .inv .3,
+      bytes-after (l .marks) (now (a .marks)) (l .taken) (acted .mark) (l .inv .4),
+      simp length-set (l .inv .5),
     )
 
 same-length : tie.Need-same-length Inv-loop μ-loop
@@ -77,10 +89,11 @@ returns c =
     let l = c .before .loop in
     let a = c .before .before .before .before .before .before .args in
     let run = c .before .before .begun .ensures in
-    let end : l .i ≡ length (a .schedule .now) = omega arith in (
-      sym (played-past (now (a .table)) (a .states) (a .operations) (l .ran) (a .schedule .now) (l .i) (omega arith))
-          ∙ (l .inv .2 ∙ ap (λ r. playedOf (now (a .table)) (a .states) (a .operations) r (a .schedule .now)) run),
-      marks-all (now (a .table)) (a .states) (a .operations) (l .ran .group) (a .schedule .now) (l .marks) (a .marks .now) _ (l .i) end (l .inv .3 ∙ ap (λ r. marksOf (now (a .table)) (a .states) (a .operations) (r .group) (a .schedule .now)) run) (l .inv .4),
+    let played = played-past (now (a .table)) (a .states) (a .operations) (l .ran) (now (a .schedule)) (l .taken) (omega arith) in
+    let marked = ap (λ r. marksOf (now (a .table)) (a .states) (a .operations) (r .group) (now (a .schedule))) run in (
+      sym played ∙ (l .inv .2 ∙ ap (λ r. playedOf (now (a .table)) (a .states) (a .operations) r (now (a .schedule))) run),
+      marks-all (now (a .table)) (a .states) (a .operations) (l .ran .group) (now (a .schedule)) (l .marks) (now (a .marks)) _ (l .taken) (omega arith)
+          (l .inv .3 ∙ marked) (l .inv .4),
     )
 
 pub play-spec : {M : Type 1} → statement M
@@ -96,7 +109,7 @@ play-spec =
     act-on-requires
     slice-write-marks
     with-acted-requires
-    add-i
+    add-taken
     loop-less
     loop-again
     same-length
