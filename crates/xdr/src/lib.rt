@@ -5,7 +5,7 @@ ghost use Prim.Native.Nat.{ℕ, _+_, _≤_, _<_, _^_};
 ghost use lib.ListN.{length};
 ghost use lib.Dec.{leb};
 ghost use Rattle.xdr.specs.Field.{joined, wordAt, within, fieldAt, wordField, endAt};
-ghost use Rattle.xdr.specs.Opaque.{padOf, all, opaqueAt};
+ghost use Rattle.xdr.specs.Opaque.{padOf, all, partOf, opaqueAt};
 
 // What a field gives: its value, or the code of its refusal and the byte where it begins.
 pub enum Field {
@@ -112,6 +112,21 @@ pub fn opaque_at(file: &[u8], at: usize, count: usize, low: u8, end: u8, code: u
         }
     }
     Field::Not(1, at)
+}
+
+// `count` bytes from `at` on, as a part of the file; the empty part where the file ends before they do.
+pub fn part_at(file: &[u8], at: usize, count: usize) -> &[u8]
+    ensures { λ r. ⌜ now r ≡ partOf (now (file .entry)) at count ⌝ }
+{
+    if at <= file.len() {
+        if count <= file.len() - at {
+            &file[at..at + count]
+        } else {
+            &file[..0]
+        }
+    } else {
+        &file[..0]
+    }
 }
 
 // The file's end: refused with `code` at the first extra byte.
