@@ -3,5 +3,4 @@ pub mod Format
 pub mod FormatLaws
 pub mod Layout
 pub mod LayoutLaws
-pub mod Longest
 pub mod Only

@@ -4,3 +4,4 @@ pub mod Only
 pub mod Order
 pub mod OrderLaws
 pub mod ReadLaws
+pub mod Worked

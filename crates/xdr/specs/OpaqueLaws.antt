@@ -5,15 +5,15 @@ use native.Mathlib.Numerals.{sub-one, add-one}
 use native.Mathlib.Omega.{arith}
 use mathlib.Core.Path.{_≡_, refl, sym, ap, _∙_}
 use mathlib.Core.Bool.{Bool, true, false}
-use mathlib.Core.List.{List}
+use mathlib.Core.List.{List, []}
 use lib.Dec.{leb}
-use lib.ListN.{length, getD}
-use borrow.Author.Tests.{leb-true, leb-false, lt-leb}
+use lib.ListN.{length, getD, take, drop}
+use borrow.Author.Tests.{leb-true, leb-false, le-leb, lt-leb}
 use Rattle.xdr.specs.declared.Field.{Field}
 use Rattle.xdr.specs.declared.Field.the-variants.{Is, Not}
 use Rattle.xdr.specs.Field.{both, judged}
 use Rattle.xdr.specs.FieldLaws.{both-left, both-right, Taken, judged-takes, judged-refuses, judged-ends, judged-taken}
-use Rattle.xdr.specs.Opaque.{padOf, padded, all, opaqueAt}
+use Rattle.xdr.specs.Opaque.{padOf, padded, all, partOf, opaqueAt}
 
 -- The pad bytes are fewer than four, and a longer part has no fewer bytes with them.
 pub pad-below : (n : ℕ) → padOf n < 4
@@ -79,3 +79,12 @@ pub bytes-end : (ok : ℕ → Bool) (code : ℕ) (s : List ℕ) (n p : ℕ) → 
 bytes-end ok code s n p f =
     let h : length s < p + n = leb-false (p + n) (length s) f in
     sym (opaque-ends ok code s n p (lt-leb (p + padded n) (length s) (omega arith)))
+
+-- A part that lies in the file, and one that doesn't.
+pub part-inside : (s : List ℕ) (p n : ℕ) → p + n ≤ length s → partOf s p n ≡ take n (drop p s)
+unfolding partOf
+part-inside s p n h = simp (le-leb (p + n) (length s) h)
+
+pub part-outside : (s : List ℕ) (p n : ℕ) → length s < p + n → partOf s p n ≡ []
+unfolding partOf
+part-outside s p n h = simp (lt-leb (p + n) (length s) h)

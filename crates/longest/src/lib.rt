@@ -1,0 +1,1 @@
+// The longest order file that is taken: theorems alone.
