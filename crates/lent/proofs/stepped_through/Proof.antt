@@ -71,9 +71,19 @@ use Rattle.lent.proofs.stepped_through.Statement as stated
 use Rattle.lent.proofs.stepped_through.Code as code
 
 abbrev stayed : Stays (through.ended .signature .params) (through.ended .kept)
-stayed =
-    (stay-none (λ _. S.the-row) yes, (stay-none (λ _. L.the-row) yes, (stay-none (λ _. u32) yes, (stay-none-slice (0 ∷ []) tt (plain (λ _. u8)) yes,
-    (stay-none (λ _. usize) yes, (stay-none (λ _. usize) yes, (stay-none (λ _. O.the-row) yes, tt)))))))
+stayed = (
+  stay-none (λ _. S.the-row) yes,
+  (
+    stay-none (λ _. L.the-row) yes,
+    (
+      stay-none (λ _. u32) yes,
+      (
+        stay-none-slice (0 ∷ []) tt (plain (λ _. u8)) yes,
+        (stay-none (λ _. usize) yes, (stay-none (λ _. usize) yes, (stay-none (λ _. O.the-row) yes, tt))),
+      ),
+    ),
+  ),
+)
 
 -- the contract that the proof cites
 abbrev StepLent : {M : Type 1} (𝓤 : URA M) (H : Heap 𝓤) (A : Atoms 𝓤) (mem : Memory → SProp 𝓤) (run : Routine → Fun 𝓤) → Contract 𝓤
@@ -197,8 +207,19 @@ module _ {M : Type 1} (𝓤 : URA M) (H : Heap 𝓤) (A : Atoms 𝓤) (W : Given
       (walk 𝓤 H A W mem run (κs .0) (qs .0) (a .0) (a .1 .0) (a .1 .1 .0) (a .1 .1 .1 .0) (a .1 .1 .1 .1 .0) (a .1 .1 .1 .1 .1 .0) (a .1 .1 .1 .1 .1 .1 .0) C Λ fm known (are .0) (are .1)))
 
   goes : AllGo 𝓤 H A W 1 (through.signature .params) (through.ended .kept) stayed
-  goes = (goes-none 𝓤 H A W 1 (λ _. S.the-row) yes (λ κs x f. refl), (goes-none 𝓤 H A W 1 (λ _. L.the-row) yes (λ κs x f. refl), (goes-none 𝓤 H A W 1 (λ _. u32) yes (λ κs x f. refl), (goes-none-slice 𝓤 H A W 1 (0 ∷ []) tt (plain (λ _. u8)) yes,
-      (goes-none 𝓤 H A W 1 (λ _. usize) yes (λ κs x f. refl), (goes-none 𝓤 H A W 1 (λ _. usize) yes (λ κs x f. refl), (goes-none 𝓤 H A W 1 (λ _. O.the-row) yes (λ κs x f. refl), tt)))))))
+  goes = (
+    goes-none 𝓤 H A W 1 (λ _. S.the-row) yes (λ κs x f. refl),
+    (
+      goes-none 𝓤 H A W 1 (λ _. L.the-row) yes (λ κs x f. refl),
+      (
+        goes-none 𝓤 H A W 1 (λ _. u32) yes (λ κs x f. refl),
+        (
+          goes-none-slice 𝓤 H A W 1 (0 ∷ []) tt (plain (λ _. u8)) yes,
+          (goes-none 𝓤 H A W 1 (λ _. usize) yes (λ κs x f. refl), (goes-none 𝓤 H A W 1 (λ _. usize) yes (λ κs x f. refl), (goes-none 𝓤 H A W 1 (λ _. O.the-row) yes (λ κs x f. refl), tt))),
+        ),
+      ),
+    ),
+  )
 
 through-meets : {M : Type 1} (𝓤 : URA M) (H : Heap 𝓤) (A : Atoms 𝓤) → Given 𝓤 H A → (mem : Memory → SProp 𝓤) (run : Routine → Fun 𝓤) (𝓣 : Tables 𝓤 H) → Triple 𝓤 (𝓣 .C #lent·step-lent) (StepLent 𝓤 H A mem run)
     → Meets 𝓤 H A through.signature (WpFn 𝓤 H (𝓣 .C) (𝓣 .Λ) code.function) (through.spec 𝓤 H A mem run)

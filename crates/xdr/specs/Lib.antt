@@ -1,0 +1,4 @@
+pub mod Field
+pub mod FieldLaws
+pub mod Opaque
+pub mod OpaqueLaws
