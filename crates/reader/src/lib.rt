@@ -1,6 +1,6 @@
 // A reader: a lent file and its own position in it. It hands out one field after another. Each function over it takes it apart and leaves
 // the work to a function on the file and the position, whose name ends in `_there`. A refusal is an answer, with its code and place, and
-// no refusal moves the reader. Callers that want no reader of their own use `read`.
+// no refusal moves the reader. Callers that want no reader of their own use `read` and `part_at`.
 ghost use mathlib.Core.Path.{_≡_};
 ghost use Prim.Native.Nat.{_+_, _≤_};
 ghost use lib.ListN.{length};
@@ -138,4 +138,12 @@ pub fn read(file: &[u8], at: usize, count: usize) -> Reading
         next: place(there),
         left: left(there),
     }
+}
+
+// The part of `count` bytes at a position of a file, handed out by a reader made for it: the file's own bytes. The empty part at the
+// file's beginning where it is refused.
+pub fn part_at(file: &[u8], at: usize, count: usize) -> &[u8]
+    ensures { λ r. ⌜ PartOf (file .entry) count at r ⌝ }
+{
+    part(reader_at(file, at), count)
 }
