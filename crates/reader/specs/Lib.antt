@@ -1,0 +1,3 @@
+pub mod Reader
+pub mod ReaderLaws
+pub mod Only
