@@ -47,13 +47,6 @@ judged reaches passes v code p = pickField reaches (pickField passes (Is v) (Not
 unfoldable pub fieldAt : (ℕ → Bool) → ℕ → List ℕ → ℕ → Field
 fieldAt ok code s p = judged (wordFits s p) (ok (wordAt s p)) (wordAt s p) code p
 
--- The word at position p as a field with no test of its own.
-abbrev pub anyValue : ℕ → Bool
-anyValue v = true
-
-abbrev pub wordField : List ℕ → ℕ → Field
-wordField s p = fieldAt anyValue 1 s p
-
 -- "The fields in file order": the first refusal; with none, what the last field gives.
 abbrev pub andThen : Field → Field → Field
 andThen (Is v) g = g

@@ -4,11 +4,9 @@ use Prim.Native.Nat.{ℕ, _+_, _<_, _^_}
 use mathlib.Core.Path.{_≡_, sym, _∙_}
 use mathlib.Core.Bool.{Bool}
 use mathlib.Core.List.{List}
-use denote.Ref.{RefT, now}
 use lib.Dec.{leb}
 use Rattle.xdr.specs.declared.Field.{Field}
-use Rattle.xdr.specs.declared.Reader.{Reader}
-use Rattle.xdr.specs.Field.{wordAt, within, fieldAt, wordField, endAt}
+use Rattle.xdr.specs.Field.{wordAt, within, fieldAt, endAt}
 use Rattle.xdr.specs.Opaque.{padOf, partOf, opaqueAt}
 
 -- two answers that are equal to one are equal
@@ -36,19 +34,3 @@ only-end-at s p code r r′ = same
 
 pub only-part-at : (s : List ℕ) (p count : ℕ) (r r′ : List ℕ) → r ≡ partOf s p count → r′ ≡ partOf s p count → r ≡ r′
 only-part-at s p count r r′ = same
-
-pub only-word-field : (s : List ℕ) (p : ℕ) (r r′ : Field) → r ≡ wordField s p → r′ ≡ wordField s p → r ≡ r′
-only-word-field s p r r′ = same
-
--- A reader is its file and its position.
-pub only-opened : (file : RefT (List ℕ)) (r r′ : Reader) → (r .file ≡ file) × (r .at ≡ 0) → (r′ .file ≡ file) × (r′ .at ≡ 0) → r ≡ r′
-only-opened file r r′ h k = λ i. record { file = same (h .0) (k .0) i; at = same (h .1) (k .1) i }
-
-pub only-moved : (file : RefT (List ℕ)) (at : ℕ) (r r′ : Reader) → (r .file ≡ file) × (r .at ≡ at) → (r′ .file ≡ file) × (r′ .at ≡ at) → r ≡ r′
-only-moved file at r r′ h k = λ i. record { file = same (h .0) (k .0) i; at = same (h .1) (k .1) i }
-
-pub only-next-word : (reader : Reader) (r r′ : Field) → r ≡ wordField (now (reader .file)) (reader .at) → r′ ≡ wordField (now (reader .file)) (reader .at) → r ≡ r′
-only-next-word reader r r′ = same
-
-pub only-lent : (reader : Reader) (r r′ : RefT (List ℕ)) → r ≡ reader .file → r′ ≡ reader .file → r ≡ r′
-only-lent reader r r′ = same

@@ -4,7 +4,7 @@ ghost use mathlib.Core.Bool.{Bool};
 ghost use Prim.Native.Nat.{ℕ, _+_, _≤_, _<_, _^_};
 ghost use lib.ListN.{length};
 ghost use lib.Dec.{leb};
-ghost use Rattle.xdr.specs.Field.{joined, wordAt, within, fieldAt, wordField, endAt};
+ghost use Rattle.xdr.specs.Field.{joined, wordAt, within, fieldAt, endAt};
 ghost use Rattle.xdr.specs.Opaque.{padOf, all, partOf, opaqueAt};
 
 // What a field gives: its value, or the code of its refusal and the byte where it begins.
@@ -138,49 +138,4 @@ pub fn end_at(file: &[u8], at: usize, code: u8) -> Field
     } else {
         Field::Not(code, at)
     }
-}
-
-// The word at a position, whatever it says: refused with 1 where the file ends before it does.
-pub fn word_field(file: &[u8], at: usize) -> Field
-    ensures { λ r. ⌜ r ≡ wordField (now (file .entry)) at ⌝ }
-{
-    if reaches(file.len(), at, 4) {
-        Field::Is(word_at(file, at))
-    } else {
-        Field::Not(1, at)
-    }
-}
-
-// A lent file and a position in it.
-pub struct Reader<'a> {
-    pub file: &'a [u8],
-    pub at: usize,
-}
-
-// A reader at a file's beginning.
-pub fn opened<'a>(file: &'a [u8]) -> Reader<'a>
-    ensures { λ r. ⌜ (r .file ≡ file .entry) × (r .at ≡ 0) ⌝ }
-{
-    Reader { file, at: 0 }
-}
-
-// The word at the reader's position.
-pub fn next_word<'a>(r: Reader<'a>) -> Field
-    ensures { λ f. ⌜ f ≡ wordField (now (r .entry .file)) (r .entry .at) ⌝ }
-{
-    word_field(r.file, r.at)
-}
-
-// The reader at another position of the same file.
-pub fn moved<'a>(r: Reader<'a>, at: usize) -> Reader<'a>
-    ensures { λ q. ⌜ (q .file ≡ r .entry .file) × (q .at ≡ at) ⌝ }
-{
-    Reader { file: r.file, at }
-}
-
-// The file that the reader holds: the caller's own bytes.
-pub fn lent<'a>(r: Reader<'a>) -> &'a [u8]
-    ensures { λ s. ⌜ s ≡ r .entry .file ⌝ }
-{
-    r.file
 }
