@@ -10,7 +10,6 @@ use Rattle.loom.specs.declared.Turned.{Turned}
 use Rattle.loom.specs.Turn.{Rules}
 use Rattle.cell.specs.Table.{entryOf}
 use Rattle.loom.specs.Looms.{turnedOf}
-use Rattle.group.specs.declared.Outcome.{Outcome}
 use Rattle.group.specs.Step.{isUnfit, hasAnswered, unmoved, taken, pickOutcome, stepOnOf}
 use Rattle.lent.specs.Lent.{left, together, returnedOf, leftOf}
 

@@ -31,7 +31,7 @@ use denote.Lend.{lends-ref, ref-back}
 use denote.Ref.{RefT, MutRef, now}
 use denote.Signature.{plain}
 use denote.Slice.{slice-vals, shr-slice-tells, shr-slice-lawful}
-use denote.Steps.{only, owned, peeks, heard, nothing}
+use denote.Steps.{only, owned, peeks, heard}
 use denote.Struct.Laws as LL
 use denote.Struct.Steps.{spelt}
 use denote.Triple.Statement.{Contract, Triple}

@@ -1,14 +1,14 @@
 -- `reader::part_there` meets its contract: a part that is there lies within the file.
 -- Assumes nothing.
-use Prim.Native.Nat.{ℕ, _+_, _≤_}
+use Prim.Native.Nat.{ℕ, _+_}
 use native.Mathlib.Nat.{zero-add, add-sub-cancel-left}
 use native.Mathlib.Omega.{arith}
-use mathlib.Core.Path.{_≡_, refl, sym, ap, _∙_}
-use mathlib.Core.List.{List, []}
-use lib.ListN.{length, take, drop}
+use mathlib.Core.Path.{refl, sym, ap, _∙_}
+use mathlib.Core.List.{[]}
+use lib.ListN.{take, drop}
 use denote.Ref.{now}
 use Rattle.xdr.specs.declared.Field.{Field}
-use Rattle.reader.specs.Reader.{whereThere, endOf}
+use Rattle.reader.specs.Reader.{whereThere}
 use Rattle.reader.specs.ReaderLaws.{part-inside}
 use borrow.Author.Needs.{needs}
 use Rattle.reader.proofs.part_there.Statement.{statement}
