@@ -21,9 +21,9 @@ use Rattle.loom.specs.declared.Place.the-variants.{Begin, Posted, Looking, Read
 use Rattle.loom.specs.declared.Loom.{Loom}
 use Rattle.loom.specs.declared.Shared.{Shared}
 use Rattle.loom.specs.Sides.{sideNumber, sideFrom, sameSide, register}
-use Rattle.loom.specs.Turn.{Rules, turnOf}
+use Rattle.loom.specs.Turn.{Rules, Turn, turnOf}
 use Rattle.loom.specs.Looms.{movedTo, restartedOf}
-use Rattle.agreement.specs.Machine.{Event, step, State, sideOf, changedAt, withPost, turned, steppedFrom, stepped, acted, after}
+use Rattle.agreement.specs.Machine.{Event, step, State, sideOf, changedAt, withPost, withSaid, turned, steppedFrom, stepped, acted, after}
 use Rattle.agreement.specs.MachineLaws.{changed-other, stepped-no-loom, stepped-loom, stepped-answered}
 use Rattle.agreement.specs.LogLaws.{register-written}
 use Rattle.group.specs.declared.Group.{Group}
@@ -124,8 +124,12 @@ module _ (table : List ℕ) (states operations : ℕ) (looms : List Seat) (good 
     pub pictured : Pictured looms h S
 
   module _ (h : History) (S : State) (along : Along h S) (k : ℕ) (here : k < length looms) where
+    machineTurn : Turn
+    machineTurn = turnOf R (sideOf looms k) (num (sideOf looms k)) (entryOf table states (operationAt looms k)) (S .shared) (S .place k)
+
     -- Its turn is the machine's.
-    turn-same : turnIn table states (h .group) k ≡ turnOf R (sideOf looms k) (num (sideOf looms k)) (entryOf table states (operationAt looms k)) (S .shared) (S .place k)
+    turn-same : turnIn table states (h .group) k ≡ machineTurn
+    unfolding machineTurn
     turn-same =
         rw (
           along .rules,
@@ -137,13 +141,22 @@ module _ (table : List ℕ) (states operations : ℕ) (looms : List Seat) (good 
         )
         refl
 
+    -- And what the log is told of it.
+    log-same : withSaid k (loomAt (h .group) k .side) (turnIn table states (h .group) k .said)
+        (withPost k (loomAt (h .group) k .side) (register (turnIn table states (h .group) k .shared) (loomAt (h .group) k .side)) (loomAt (h .group) k .place) (h .log)) ≡
+        withSaid k (sideOf looms k) (machineTurn .said) (withPost k (sideOf looms k) (num (sideOf looms k)) (S .place k) (S .log))
+    unfolding machineTurn
+    log-same =
+        rw (turn-same, along .fits .seated .side k here, along .pictured .place k here, along .pictured .log)
+        (ap (withSaid k (sideOf looms k) (machineTurn .said)) (post-read-back R k (sideOf looms k) (num (sideOf looms k)) (entryOf table states (operationAt looms k)) (S .shared) (S .place k) (S .log)))
+
     room : k < length (h .group .looms)
     room = omega (arith, along .fits .seated .slots)
 
     -- A loom that has not answered takes its turn, and the log is told of it.
     pictured-taken : hasAnswered (loomAt (h .group) k .place) ≡ false →
         Pictured looms (steppedTo k h (stepOf table states operations (h .group) k)) (acted (entryOf table states) looms R (step k (num (sideOf looms k))) S)
-    unfolding noted stepped steppedFrom turned
+    unfolding noted stepped steppedFrom turned machineTurn
     pictured-taken going =
         rw (
           step-of-unanswered table states operations looms good (h .group) (along .fits) k here going,
@@ -154,18 +167,7 @@ module _ (table : List ℕ) (states operations : ℕ) (looms : List Seat) (good 
           place = λ j below.
               place-with-loom (withShared (h .group) (turnIn table states (h .group) k .shared)) k (movedTo (loomAt (h .group) k) (turnIn table states (h .group) k .place)) room j
               ∙ changed-alike (λ i. loomAt (h .group) i .place) (S .place) k _ _ j (along .pictured .place j below) (ap (λ t. t .place) turn-same);
-          log =
-              rw (post-read-back (groupRules (h .group)) k (loomAt (h .group) k .side) (numberOf (h .group .numbers) (loomAt (h .group) k .side)) (entryOf table states (loomAt (h .group) k .operation)) (h .group .shared) (loomAt (h .group) k .place) (h .log))
-              (rw (
-                along .rules,
-                along .numbers,
-                along .fits .seated .side k here,
-                along .fits .seated .operation k here,
-                along .pictured .shared,
-                along .pictured .place k here,
-                along .pictured .log,
-              )
-              refl);
+          log = log-same;
         }
 
     -- One that has answered stays, and so does the machine.
