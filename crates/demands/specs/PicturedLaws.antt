@@ -27,11 +27,12 @@ use Rattle.agreement.specs.Machine.{Event, step, State, sideOf, changedAt, with
 use Rattle.agreement.specs.MachineLaws.{changed-other, stepped-no-loom, stepped-loom, stepped-answered}
 use Rattle.agreement.specs.LogLaws.{register-written}
 use Rattle.group.specs.declared.Group.{Group}
-use Rattle.group.specs.Group.{emptyLoom, loomAt, numberOf, countOf, yieldingOf, leadOf, groupRules, withLoom, withShared, restartedBelow}
+use Rattle.group.specs.Group.{emptyLoom, loomAt, numberOf, countOf, yieldingOf, leadOf, groupRules, withLoom, withShared}
+use Rattle.group.specs.ActsLaws.{restarted-each}
 use Rattle.group.specs.Step.{hasAnswered, stepOf}
 use Rattle.demands.specs.Acts.{Act, loomSteps, loomRestarts, allRestart, History, noted, steppedTo, actedOn, historyAfter}
 use Rattle.demands.specs.Kept.{Kept}
-use Rattle.demands.specs.KeptLaws.{kept-restarted-below, kept-by-act}
+use Rattle.demands.specs.KeptLaws.{kept-by-act}
 use Rattle.demands.specs.Fits.{Seated, WellFormed, Fits}
 use Rattle.demands.specs.FitsLaws.{turnIn, shared-restarted-below, step-of-none, step-of-answered, step-of-unanswered, restart-of-none, restart-of-one, restart-of-all, fits-by-act}
 use Rattle.demands.specs.Pictured.{rulesBy, numbered, allNumbered, Pictured}
@@ -93,22 +94,6 @@ post-read-back R k s v op m Ready log = refl
 post-read-back R k s v op m Applied log = refl
 post-read-back R k s v op m (Bound x) log = refl
 post-read-back R k s v op m (Answered x) log = refl
-
--- Where all looms below n are at begin, and loom n is sent there, all below the next are.
-begin-one-more : (f : ℕ → Place) (n j : ℕ) → ((i : ℕ) → i < n → f i ≡ Begin) → j < suc n → changedAt f n Begin j ≡ Begin
-unfolding changedAt
-begin-one-more f n j below here = by-test (eqb j n) refl
-  where
-    by-test : (b : Bool) → eqb j n ≡ b → cond b Begin (f j) ≡ Begin
-    by-test true e = refl
-    by-test false e = below j (omega (arith, eqb-false j n e))
-
-pub place-restarted-below : (g : Group) (n : ℕ) → n ≤ length (g .looms) → (j : ℕ) → j < n → loomAt (restartedBelow g n) j .place ≡ Begin
-unfolding restartedBelow
-place-restarted-below g zero room j here = absurd (not-suc-le-zero here)
-place-restarted-below g (suc n) room j here =
-    place-with-loom (restartedBelow g n) n _ (omega (arith, kept-restarted-below g n .slots)) j
-    ∙ begin-one-more _ n j (place-restarted-below g n (omega arith)) here
 
 -- They are fixed where acts leave the seats, the start and the sets alone.
 pub rules-kept : (looms : List Seat) (g h : Group) → ((k : ℕ) → sideAt looms k ≤ 1) → Kept g h → Seated looms g → Seated looms h → groupRules h ≡ groupRules g
@@ -232,8 +217,7 @@ module _ (table : List ℕ) (states operations : ℕ) (looms : List Seat) (good 
         record {
           shared = shared-restarted-below (h .group) (h .group .count) ∙ along .pictured .shared;
           place = λ j below.
-              place-restarted-below (h .group) (h .group .count) (omega (arith, along .fits .seated .count, along .fits .seated .slots)) j
-              (omega (arith, along .fits .seated .count));
+              ap (λ l. l .place) (restarted-each (h .group) (h .group .count) j (omega (arith, along .fits .seated .count, along .fits .seated .slots)) (omega (arith, along .fits .seated .count)));
           log = along .pictured .log;
         }
 
