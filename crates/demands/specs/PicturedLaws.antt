@@ -221,11 +221,13 @@ module _ (table : List ℕ) (states operations : ℕ) (looms : List Seat) (good 
           log = along .pictured .log;
         }
 
+    -- The picture after one act.
     pub pictured-by-act : (a : Act) → Pictured looms (actedOn table states operations a h) (acted (entryOf table states) looms R (numbered num looms a) S)
     pictured-by-act (loomSteps k) = pictured-by-step k (decLt k (length looms))
     pictured-by-act (loomRestarts k) = pictured-by-restart k (decLt k (length looms))
     pictured-by-act allRestart = pictured-by-restart-of-all
 
+    -- And all that goes with it.
     pub along-by-act : (a : Act) → Along (actedOn table states operations a h) (acted (entryOf table states) looms R (numbered num looms a) S)
     along-by-act a =
         let kept = kept-by-act table states operations a h in

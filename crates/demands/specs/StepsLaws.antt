@@ -30,7 +30,7 @@ use Rattle.demands.specs.FitsLaws.{turnIn, step-of-none, step-of-answere
 use Rattle.demands.specs.Pictured.{numbered, allNumbered}
 use Rattle.demands.specs.Steps.{stepsOf, Unrestarted}
 
--- The steps of loom k, and its restarts, are the same among the machine's acts.
+-- The steps of loom k are the same among the machine's acts.
 pub steps-numbered : (num : Side → ℕ) (looms : List Seat) (k : ℕ) (acts : List Act) → machineSteps k (allNumbered num looms acts) ≡ stepsOf k acts
 unfolding machineSteps stepsOf allNumbered numbered
 steps-numbered num looms k [] = refl
@@ -38,6 +38,7 @@ steps-numbered num looms k (loomSteps j ∷ acts) = ap (λ n. one (eqb j k) + n)
 steps-numbered num looms k (loomRestarts j ∷ acts) = steps-numbered num looms k acts
 steps-numbered num looms k (allRestart ∷ acts) = steps-numbered num looms k acts
 
+-- And so are its restarts.
 pub unrestarted-numbered : (num : Side → ℕ) (looms : List Seat) (k : ℕ) (acts : List Act) → Unrestarted k acts → MachineUnrestarted k (allNumbered num looms acts)
 unfolding allNumbered numbered
 unrestarted-numbered num looms k [] free = tt
