@@ -51,9 +51,10 @@ historyAfter table states operations (a ∷ acts) h = historyAfter table states 
 abbrev pub untouched : Group → History
 untouched g = record { group = g; log = [] }
 
--- The group after the acts, and the events that they left on it.
+-- The group after the acts.
 abbrev pub groupAfter : List ℕ → ℕ → ℕ → List Act → Group → Group
 groupAfter table states operations acts g = historyAfter table states operations acts (untouched g) .group
 
+-- The events that the acts left on it, the latest first.
 abbrev pub eventsAfter : List ℕ → ℕ → ℕ → List Act → Group → List Event
 eventsAfter table states operations acts g = historyAfter table states operations acts (untouched g) .log

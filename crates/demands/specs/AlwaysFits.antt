@@ -24,5 +24,6 @@ module _ (table : List ℕ) (states operations : ℕ) (c : Certificate) (numbers
   new : NewlyOpened table states operations c numbers opening
   new = newly-opened table states operations c numbers room code
 
+  -- Whatever the acts before it, no step is refused with 32.
   pub always-fits : (acts : List Act) (k : ℕ) → stepOf table states operations (groupAfter table states operations acts opening) k .code ≡ 32 → ⊥
   always-fits acts = never-unfit table states operations (loomsOf c) (new .good) (groupAfter table states operations acts opening) (along new acts .fits)

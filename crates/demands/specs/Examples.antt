@@ -32,9 +32,11 @@ bothPieces = pieces 501 733
 abbrev pub steps : List ℕ → List Act
 steps = map loomSteps
 
+-- The looms A0 B1.
 abbrev pub pair : List Seat
 pair = ofA 0 ∷ ofB 1 ∷ []
 
+-- The table of sticky: 0→1 1→1 2→2; 0→2 1→1 2→2.
 abbrev pub sticky : List ℕ
 sticky = 1 ∷ 1 ∷ 2 ∷ 2 ∷ 1 ∷ 2 ∷ []
 
@@ -71,10 +73,11 @@ pub returns-events : eventsAfter returns 3 2
 unfolding computed
 returns-events = refl
 
--- So demand 3 holds of both, whatever the acts.
+-- So demand 3 holds of sticky, whatever the acts.
 pub sticky-agreed : (acts : List Act) → Agreed (numberOf bothPieces) (eventsAfter sticky 3 2 acts (openOf sticky 3 2 (certificateOf 0 pair) bothPieces 8 .group))
 sticky-agreed = demand-three sticky 3 2 (certificateOf 0 pair) bothPieces 8 sticky-opens
 
+-- And of "returns".
 pub returns-agreed : (acts : List Act) → Agreed (numberOf bothPieces) (eventsAfter returns 3 2 acts (openOf returns 3 2 (certificateOf 0 pair) bothPieces 8 .group))
 returns-agreed = demand-three returns 3 2 (certificateOf 0 pair) bothPieces 8 returns-opens
 
@@ -82,9 +85,11 @@ returns-agreed = demand-three returns 3 2 (certificateOf 0 pair) bothPieces 8 re
 abbrev pub unchecked : List ℕ → ℕ → ℕ → Certificate → Numbers → ℕ → Group
 unchecked table states operations c numbers room = freshGroup c (setsFrom (judgedOf table states operations c room)) numbers
 
+-- The looms A0 B1 B1.
 abbrev pub three : List Seat
 three = ofA 0 ∷ ofB 1 ∷ ofB 1 ∷ []
 
+-- The looms B0 A1 A1.
 abbrev pub threeExchanged : List Seat
 threeExchanged = ofB 0 ∷ ofA 1 ∷ ofA 1 ∷ []
 

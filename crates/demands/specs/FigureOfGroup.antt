@@ -2,18 +2,19 @@
 -- Assumes nothing.
 use Prim.Native.Nat.{ℕ}
 use mathlib.Core.Path.{_≡_}
-use mathlib.Core.List.{List}
+use mathlib.Core.List.{List, [], _∷_, _++_}
 use Rattle.cell.specs.Table.{entryOf}
 use Rattle.recording.specs.declared.Certificate.{Certificate}
 use Rattle.recording.specs.Check.{loomsOf}
-use Rattle.agreement.specs.Figure.{Setting, ran, initial}
+use Rattle.agreement.specs.Figure.{System, Setting, moved, ran, initial}
 use Rattle.agreement.specs.Fitted.{Renders}
 use Rattle.group.specs.declared.Numbers.{Numbers}
 use Rattle.group.specs.declared.Group.{Group}
 use Rattle.group.specs.Group.{numberOf, groupRules}
 use Rattle.group.specs.Open.{openOf}
-use Rattle.demands.specs.Acts.{Act, untouched, historyAfter}
-use Rattle.demands.specs.Pictured.{allNumbered}
+use Rattle.demands.specs.Acts.{Act, untouched, actedOn, historyAfter}
+use Rattle.demands.specs.ActsLaws.{history-one-more, numbered-one-more, ran-one-more}
+use Rattle.demands.specs.Pictured.{numbered, allNumbered}
 use Rattle.demands.specs.Processes.{settingIn, SameState}
 use Rattle.demands.specs.NewlyOpenedLaws.{rules-render, same-state-always}
 use Rattle.demands.specs.OpenedLaws.{newly-opened}
@@ -32,10 +33,25 @@ module _ (table : List ℕ) (states operations : ℕ) (c : Certificate) (numbers
   pub setting-renders : Renders (entryOf table states) (loomsOf c) (c .start) (groupRules opening)
   setting-renders = rules-render (newly-opened table states operations c numbers room code)
 
-  -- After any acts, so before and after each of them, the group and Figure 2's system are in the same state: place for line, register for
-  -- register, answer for return. A step of a loom is its process's step, with its side's number for v; a restart is its crash.
+  -- Figure 2's system after these acts: a step of a loom is a step of its process, with its side's number for v, and a restart is a crash.
+  abbrev system : List Act → System
+  system acts = ran setting (allNumbered (numberOf numbers) (loomsOf c) acts) (initial setting)
+
+  -- After any acts the group and Figure 2's system are in the same state: place for line, register for register, answer for return.
   pub figure-of-group : (acts : List Act) →
-      SameState (loomsOf c) (groupRules opening) setting
-      (historyAfter table states operations acts (untouched opening))
-      (ran setting (allNumbered (numberOf numbers) (loomsOf c) acts) (initial setting))
+      SameState (loomsOf c) (groupRules opening) setting (historyAfter table states operations acts (untouched opening)) (system acts)
   figure-of-group = same-state-always (newly-opened table states operations c numbers room code)
+
+  -- And so after one act more, of ours and of Figure 2's: each step of a loom is its process's step, and each restart its crash.
+  pub each-act : (acts : List Act) (a : Act) →
+      SameState (loomsOf c) (groupRules opening) setting
+      (actedOn table states operations a (historyAfter table states operations acts (untouched opening)))
+      (moved setting (numbered (numberOf numbers) (loomsOf c) a) (system acts))
+  each-act acts a =
+      rw (
+        history-one-more table states operations acts a (untouched opening),
+        numbered-one-more (numberOf numbers) (loomsOf c) acts a,
+        ran-one-more setting (allNumbered (numberOf numbers) (loomsOf c) acts) (numbered (numberOf numbers) (loomsOf c) a) (initial setting),
+      )
+      at
+      (figure-of-group (acts ++ (a ∷ [])))

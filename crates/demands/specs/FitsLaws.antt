@@ -28,6 +28,7 @@ use Rattle.demands.specs.Kept.{Kept}
 use Rattle.demands.specs.KeptLaws.{kept-by-act}
 use Rattle.demands.specs.Fits.{Seated, WellFormed, Fits}
 
+-- Where acts leave the seats alone, the same looms are seated.
 pub seated-still : (looms : List Seat) (g h : Group) → Kept g h → Seated looms g → Seated looms h
 seated-still looms g h kept seated =
     record {
@@ -42,10 +43,11 @@ abbrev pub turnIn : List ℕ → ℕ → Group → ℕ → Turn
 turnIn table states g k =
     turnOf (groupRules g) (loomAt g k .side) (numberOf (g .numbers) (loomAt g k .side)) (entryOf table states (loomAt g k .operation)) (g .shared) (loomAt g k .place)
 
--- The group after turn t of its loom k, and what that step comes to.
+-- The group after turn t of its loom k.
 abbrev pub movedOn : Group → ℕ → Turn → Group
 movedOn g k t = withLoom (withShared g (t .shared)) k (movedTo (loomAt g k) (t .place))
 
+-- What that step comes to.
 abbrev pub turnTaken : Group → ℕ → Turn → Stepped
 turnTaken g k t = record { code = 0; said = t .said; steps = counted (loomAt g k .steps); group = movedOn g k t }
 
@@ -72,12 +74,15 @@ module _ (table : List ℕ) (states operations : ℕ) (looms : List Seat) (good 
     few : g .count ≤ edition .looms
     few = omega (arith, fits .seated .count, good .few)
 
+    -- Where there is no loom k, 30 has a cause.
     pub no-such-loom : (k : ℕ) → length looms ≤ k → noLoom g k ≡ true
     no-such-loom k past = simp (le-ltb (edition .looms) (g .count) few, le-leb (g .count) k (omega (arith, fits .seated .count)))
 
+    -- Where there is, it has none.
     pub such-loom : (k : ℕ) → k < length looms → noLoom g k ≡ false
     such-loom k here = simp (le-ltb (edition .looms) (g .count) few, lt-leb (g .count) k (omega (arith, fits .seated .count)))
 
+    -- The looms are not too many.
     pub not-too-many : tooMany g ≡ false
     not-too-many = le-ltb (edition .looms) (g .count) few
 
@@ -98,28 +103,33 @@ module _ (table : List ℕ) (states operations : ℕ) (looms : List Seat) (good 
           lt-leb _ _ below,
         )
 
-    -- The three ways that a step ends: there is no such loom, the loom has answered, or it takes its turn.
+    -- A step ends in three ways. There is no such loom: 30.
     pub step-of-none : (k : ℕ) → length looms ≤ k → stepOf table states operations g k ≡ refused 30 g
     unfolding stepOf
     step-of-none k past = simp (no-such-loom k past)
 
+    -- The loom has answered: 31.
     pub step-of-answered : (k : ℕ) → k < length looms → hasAnswered (loomAt g k .place) ≡ true → stepOf table states operations g k ≡ refused 31 g
     unfolding stepOf settled stepOnOf
     step-of-answered k here done = simp (such-loom k here, not-unfit k here, done)
 
+    -- It has not: it takes its turn.
     pub step-of-unanswered : (k : ℕ) → k < length looms → hasAnswered (loomAt g k .place) ≡ false →
         stepOf table states operations g k ≡ turnTaken g k (turnIn table states g k)
     unfolding stepOf settled stepOnOf
     step-of-unanswered k here going = simp (such-loom k here, not-unfit k here, going)
 
+    -- A restart of no loom of the group: 30.
     pub restart-of-none : (k : ℕ) → length looms ≤ k → restartOf g k ≡ restarted 30 g
     unfolding restartOf
     restart-of-none k past = simp (no-such-loom k past)
 
+    -- A restart of a loom of the group.
     pub restart-of-one : (k : ℕ) → k < length looms → restartOf g k ≡ restarted 0 (restartedAt g k)
     unfolding restartOf
     restart-of-one k here = simp (such-loom k here)
 
+    -- A restart of all is never refused.
     pub restart-of-all : restartAllOf g ≡ restarted 0 (restartedBelow g (g .count))
     unfolding restartAllOf
     restart-of-all = simp not-too-many
@@ -162,6 +172,7 @@ module _ (table : List ℕ) (states operations : ℕ) (looms : List Seat) (good 
         by-loom (yes here) = by-place here (hasAnswered (loomAt g k .place)) refl
         by-loom (no past) = λ code. omega (arith, rw (step-of-none k (omega arith)) at code)
 
+  -- Group and table fit after one act.
   pub fits-by-act : (a : Act) (h : History) → Fits states looms (h .group) → Fits states looms (actedOn table states operations a h .group)
   unfolding actedOn
   fits-by-act a h fits = record { seated = seated-still looms (h .group) _ (kept-by-act table states operations a h) (fits .seated); cell = within a }

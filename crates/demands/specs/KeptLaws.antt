@@ -18,12 +18,15 @@ use Rattle.group.specs.Step.{isUnfit, hasAnswered, unmoved, taken, pickOutcome,
 use Rattle.demands.specs.Acts.{Act, loomSteps, loomRestarts, allRestart, History, actedOn, historyAfter}
 use Rattle.demands.specs.Kept.{SameLoom, Kept}
 
+-- A loom has its own side and operation.
 pub same-loom : (l : Loom) → SameLoom l l
 same-loom l = record { side = refl; operation = refl }
 
+-- Nothing done keeps everything.
 pub kept-itself : (g : Group) → Kept g g
 kept-itself g = record { count = refl; start = refl; sets = refl; numbers = refl; slots = refl; looms = λ k. same-loom (loomAt g k) }
 
+-- What is kept twice over is kept.
 pub kept-further : (f g h : Group) → Kept f g → Kept g h → Kept f h
 kept-further f g h one two =
     record {
@@ -44,6 +47,7 @@ same-after-set (m ∷ ls) zero l same (suc j) = same-loom (getD ls j emptyLoom)
 same-after-set (m ∷ ls) (suc k) l same zero = same-loom m
 same-after-set (m ∷ ls) (suc k) l same (suc j) = same-after-set ls k l same j
 
+-- A loom of the same side and operation in its slot changes nothing that acts leave alone.
 pub kept-with-loom : (g : Group) (k : ℕ) (l : Loom) → SameLoom l (loomAt g k) → Kept g (withLoom g k l)
 kept-with-loom g k l same =
     record {
@@ -55,6 +59,7 @@ kept-with-loom g k l same =
       looms = same-after-set (g .looms) k l same;
     }
 
+-- Nor does another memory.
 pub kept-with-shared : (g : Group) (m : Shared) → Kept g (withShared g m)
 kept-with-shared g m = record { count = refl; start = refl; sets = refl; numbers = refl; slots = refl; looms = λ k. same-loom (loomAt g k) }
 
@@ -78,6 +83,7 @@ kept-settled g k r same = by-test (eqb (r .code) 0)
     by-test true = kept-further _ _ _ (kept-with-shared g (r .shared)) (kept-with-loom (withShared g (r .shared)) k (r .loom) same)
     by-test false = kept-itself g
 
+-- A step keeps it, taken or refused.
 pub kept-by-step : (table : List ℕ) (states operations : ℕ) (g : Group) (k : ℕ) → Kept g (stepOf table states operations g k .group)
 unfolding stepOf
 kept-by-step table states operations g k = by-test (noLoom g k)
@@ -89,11 +95,13 @@ kept-by-step table states operations g k = by-test (noLoom g k)
 kept-restarted : (g : Group) (k : ℕ) → Kept g (restartedAt g k)
 kept-restarted g k = kept-with-loom g k _ (record { side = refl; operation = refl })
 
+-- So do restarts of the looms below n.
 pub kept-restarted-below : (g : Group) (n : ℕ) → Kept g (restartedBelow g n)
 unfolding restartedBelow
 kept-restarted-below g zero = kept-itself g
 kept-restarted-below g (suc n) = kept-further _ _ _ (kept-restarted-below g n) (kept-restarted (restartedBelow g n) n)
 
+-- A restart of one keeps it,
 pub kept-by-restart : (g : Group) (k : ℕ) → Kept g (restartOf g k .group)
 unfolding restartOf
 kept-by-restart g k = by-test (noLoom g k)
@@ -102,6 +110,7 @@ kept-by-restart g k = by-test (noLoom g k)
     by-test true = kept-itself g
     by-test false = kept-restarted g k
 
+-- and a restart of all.
 pub kept-by-restart-of-all : (g : Group) → Kept g (restartAllOf g .group)
 unfolding restartAllOf
 kept-by-restart-of-all g = by-test (tooMany g)
@@ -111,6 +120,7 @@ kept-by-restart-of-all g = by-test (tooMany g)
     by-test false = kept-restarted-below g (g .count)
 
 module _ (table : List ℕ) (states operations : ℕ) where
+  -- Any act keeps it.
   pub kept-by-act : (a : Act) (h : History) → Kept (h .group) (actedOn table states operations a h .group)
   unfolding actedOn
   kept-by-act (loomSteps k) h = kept-by-step table states operations (h .group) k

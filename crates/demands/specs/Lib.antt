@@ -5,6 +5,7 @@ pub mod Fits
 pub mod FitsLaws
 pub mod Pictured
 pub mod PicturedLaws
+pub mod ActsLaws
 pub mod RendersLaws
 pub mod Processes
 pub mod Steps

@@ -51,9 +51,11 @@ module _ {table : List ℕ} {states operations : ℕ} {c : Certificate} {numbers
       rw (rules-of-seats (loomsOf c) g (new .good .sides) (new .seated), new .start)
       (renders-of-sets (entryOf table states) (loomsOf c) (c .start) (g .sets) (new .sets) (new .recording))
 
+  -- So what the theorems of the machine ask is there.
   pub fitted : Fitted (entryOf table states) (loomsOf c) (c .start) (groupRules g)
   fitted = record { recording = new .recording; sides = new .good .sides; renders = rules-render }
 
+  -- Group and table fit.
   pub fits-at-opening : Fits states (loomsOf c) g
   fits-at-opening = record { seated = new .seated; cell = rw (new .shared) (new .start-fits) }
 
@@ -71,6 +73,7 @@ module _ {table : List ℕ} {states operations : ℕ} {c : Certificate} {numbers
         pictured = record { shared = new .shared; place = new .begins; log = refl };
       }
 
+  -- Demand 3: whatever the acts, the log agrees.
   pub agreed-always : (acts : List Act) → Agreed (numberOf numbers) (eventsAfter table states operations acts g)
   agreed-always acts =
       rw (along acts .pictured .log)
@@ -111,6 +114,7 @@ module _ {table : List ℕ} {states operations : ℕ} {c : Certificate} {numbers
           (after next (loomsOf c) (groupRules g) (machineActs acts) came)
       onward = along-always table states operations (loomsOf c) (new .good) (groupRules g) (numberOf numbers) acts _ _ (along before)
 
+  -- No loom counts more than six steps.
   pub counts-at-most-six : (acts : List Act) (k : ℕ) → k < length (loomsOf c) → loomAt (groupAfter table states operations acts g) k .steps ≤ 6
   counts-at-most-six acts k here =
       omega (
@@ -119,6 +123,7 @@ module _ {table : List ℕ} {states operations : ℕ} {c : Certificate} {numbers
         counts-within acts k here,
       )
 
+  -- Nor does a step's result.
   pub results-at-most-six : (acts : List Act) (k : ℕ) → stepOf table states operations (groupAfter table states operations acts g) k .steps ≤ 6
   results-at-most-six acts k =
       result-at-most-six table states operations (loomsOf c) (new .good) (groupAfter table states operations acts g) (along acts .fits) (counts-within acts) k

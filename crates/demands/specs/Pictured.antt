@@ -32,6 +32,7 @@ numbered num looms (loomSteps k) = step k (num (sideOf looms k))
 numbered num looms (loomRestarts k) = restart k
 numbered num looms allRestart = restartAll
 
+-- All of them.
 unfoldable pub allNumbered : (Side → ℕ) → List Seat → List Act → List MachineAct
 allNumbered num looms [] = []
 allNumbered num looms (a ∷ acts) = numbered num looms a ∷ allNumbered num looms acts

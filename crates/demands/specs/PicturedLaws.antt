@@ -21,17 +21,18 @@ use Rattle.loom.specs.declared.Place.the-variants.{Begin, Posted, Looking, Read
 use Rattle.loom.specs.declared.Loom.{Loom}
 use Rattle.loom.specs.declared.Shared.{Shared}
 use Rattle.loom.specs.Sides.{sideNumber, sideFrom, sameSide, register}
-use Rattle.loom.specs.Turn.{Rules, turnOf}
+use Rattle.loom.specs.Turn.{Rules, Turn, turnOf}
 use Rattle.loom.specs.Looms.{movedTo, restartedOf}
-use Rattle.agreement.specs.Machine.{Event, step, State, sideOf, changedAt, withPost, turned, steppedFrom, stepped, acted, after}
+use Rattle.agreement.specs.Machine.{Event, step, State, sideOf, changedAt, withPost, withSaid, turned, steppedFrom, stepped, acted, after}
 use Rattle.agreement.specs.MachineLaws.{changed-other, stepped-no-loom, stepped-loom, stepped-answered}
 use Rattle.agreement.specs.LogLaws.{register-written}
 use Rattle.group.specs.declared.Group.{Group}
-use Rattle.group.specs.Group.{emptyLoom, loomAt, numberOf, countOf, yieldingOf, leadOf, groupRules, withLoom, withShared, restartedBelow}
+use Rattle.group.specs.Group.{emptyLoom, loomAt, numberOf, countOf, yieldingOf, leadOf, groupRules, withLoom, withShared}
+use Rattle.group.specs.ActsLaws.{restarted-each}
 use Rattle.group.specs.Step.{hasAnswered, stepOf}
 use Rattle.demands.specs.Acts.{Act, loomSteps, loomRestarts, allRestart, History, noted, steppedTo, actedOn, historyAfter}
 use Rattle.demands.specs.Kept.{Kept}
-use Rattle.demands.specs.KeptLaws.{kept-restarted-below, kept-by-act}
+use Rattle.demands.specs.KeptLaws.{kept-by-act}
 use Rattle.demands.specs.Fits.{Seated, WellFormed, Fits}
 use Rattle.demands.specs.FitsLaws.{turnIn, shared-restarted-below, step-of-none, step-of-answered, step-of-unanswered, restart-of-none, restart-of-one, restart-of-all, fits-by-act}
 use Rattle.demands.specs.Pictured.{rulesBy, numbered, allNumbered, Pictured}
@@ -94,22 +95,6 @@ post-read-back R k s v op m Applied log = refl
 post-read-back R k s v op m (Bound x) log = refl
 post-read-back R k s v op m (Answered x) log = refl
 
--- Where all looms below n are at begin, and loom n is sent there, all below the next are.
-begin-one-more : (f : ℕ → Place) (n j : ℕ) → ((i : ℕ) → i < n → f i ≡ Begin) → j < suc n → changedAt f n Begin j ≡ Begin
-unfolding changedAt
-begin-one-more f n j below here = by-test (eqb j n) refl
-  where
-    by-test : (b : Bool) → eqb j n ≡ b → cond b Begin (f j) ≡ Begin
-    by-test true e = refl
-    by-test false e = below j (omega (arith, eqb-false j n e))
-
-pub place-restarted-below : (g : Group) (n : ℕ) → n ≤ length (g .looms) → (j : ℕ) → j < n → loomAt (restartedBelow g n) j .place ≡ Begin
-unfolding restartedBelow
-place-restarted-below g zero room j here = absurd (not-suc-le-zero here)
-place-restarted-below g (suc n) room j here =
-    place-with-loom (restartedBelow g n) n _ (omega (arith, kept-restarted-below g n .slots)) j
-    ∙ begin-one-more _ n j (place-restarted-below g n (omega arith)) here
-
 -- They are fixed where acts leave the seats, the start and the sets alone.
 pub rules-kept : (looms : List Seat) (g h : Group) → ((k : ℕ) → sideAt looms k ≤ 1) → Kept g h → Seated looms g → Seated looms h → groupRules h ≡ groupRules g
 rules-kept looms g h within kept one two =
@@ -124,8 +109,12 @@ module _ (table : List ℕ) (states operations : ℕ) (looms : List Seat) (good 
     pub pictured : Pictured looms h S
 
   module _ (h : History) (S : State) (along : Along h S) (k : ℕ) (here : k < length looms) where
+    machineTurn : Turn
+    machineTurn = turnOf R (sideOf looms k) (num (sideOf looms k)) (entryOf table states (operationAt looms k)) (S .shared) (S .place k)
+
     -- Its turn is the machine's.
-    turn-same : turnIn table states (h .group) k ≡ turnOf R (sideOf looms k) (num (sideOf looms k)) (entryOf table states (operationAt looms k)) (S .shared) (S .place k)
+    turn-same : turnIn table states (h .group) k ≡ machineTurn
+    unfolding machineTurn
     turn-same =
         rw (
           along .rules,
@@ -137,13 +126,22 @@ module _ (table : List ℕ) (states operations : ℕ) (looms : List Seat) (good 
         )
         refl
 
+    -- And what the log is told of it.
+    log-same : withSaid k (loomAt (h .group) k .side) (turnIn table states (h .group) k .said)
+        (withPost k (loomAt (h .group) k .side) (register (turnIn table states (h .group) k .shared) (loomAt (h .group) k .side)) (loomAt (h .group) k .place) (h .log)) ≡
+        withSaid k (sideOf looms k) (machineTurn .said) (withPost k (sideOf looms k) (num (sideOf looms k)) (S .place k) (S .log))
+    unfolding machineTurn
+    log-same =
+        rw (turn-same, along .fits .seated .side k here, along .pictured .place k here, along .pictured .log)
+        (ap (withSaid k (sideOf looms k) (machineTurn .said)) (post-read-back R k (sideOf looms k) (num (sideOf looms k)) (entryOf table states (operationAt looms k)) (S .shared) (S .place k) (S .log)))
+
     room : k < length (h .group .looms)
     room = omega (arith, along .fits .seated .slots)
 
     -- A loom that has not answered takes its turn, and the log is told of it.
     pictured-taken : hasAnswered (loomAt (h .group) k .place) ≡ false →
         Pictured looms (steppedTo k h (stepOf table states operations (h .group) k)) (acted (entryOf table states) looms R (step k (num (sideOf looms k))) S)
-    unfolding noted stepped steppedFrom turned
+    unfolding noted stepped steppedFrom turned machineTurn
     pictured-taken going =
         rw (
           step-of-unanswered table states operations looms good (h .group) (along .fits) k here going,
@@ -154,18 +152,7 @@ module _ (table : List ℕ) (states operations : ℕ) (looms : List Seat) (good 
           place = λ j below.
               place-with-loom (withShared (h .group) (turnIn table states (h .group) k .shared)) k (movedTo (loomAt (h .group) k) (turnIn table states (h .group) k .place)) room j
               ∙ changed-alike (λ i. loomAt (h .group) i .place) (S .place) k _ _ j (along .pictured .place j below) (ap (λ t. t .place) turn-same);
-          log =
-              rw (post-read-back (groupRules (h .group)) k (loomAt (h .group) k .side) (numberOf (h .group .numbers) (loomAt (h .group) k .side)) (entryOf table states (loomAt (h .group) k .operation)) (h .group .shared) (loomAt (h .group) k .place) (h .log))
-              (rw (
-                along .rules,
-                along .numbers,
-                along .fits .seated .side k here,
-                along .fits .seated .operation k here,
-                along .pictured .shared,
-                along .pictured .place k here,
-                along .pictured .log,
-              )
-              refl);
+          log = log-same;
         }
 
     -- One that has answered stays, and so does the machine.
@@ -230,16 +217,17 @@ module _ (table : List ℕ) (states operations : ℕ) (looms : List Seat) (good 
         record {
           shared = shared-restarted-below (h .group) (h .group .count) ∙ along .pictured .shared;
           place = λ j below.
-              place-restarted-below (h .group) (h .group .count) (omega (arith, along .fits .seated .count, along .fits .seated .slots)) j
-              (omega (arith, along .fits .seated .count));
+              ap (λ l. l .place) (restarted-each (h .group) (h .group .count) j (omega (arith, along .fits .seated .count, along .fits .seated .slots)) (omega (arith, along .fits .seated .count)));
           log = along .pictured .log;
         }
 
+    -- The picture after one act.
     pub pictured-by-act : (a : Act) → Pictured looms (actedOn table states operations a h) (acted (entryOf table states) looms R (numbered num looms a) S)
     pictured-by-act (loomSteps k) = pictured-by-step k (decLt k (length looms))
     pictured-by-act (loomRestarts k) = pictured-by-restart k (decLt k (length looms))
     pictured-by-act allRestart = pictured-by-restart-of-all
 
+    -- And all that goes with it.
     pub along-by-act : (a : Act) → Along (actedOn table states operations a h) (acted (entryOf table states) looms R (numbered num looms a) S)
     along-by-act a =
         let kept = kept-by-act table states operations a h in

@@ -37,6 +37,7 @@ module _ (next : ℕ → ℕ → ℕ) (looms : List Seat) (start : ℕ) (sets : 
       by-test true inB ofA = recording .apart start ofA (are B start .0 (eqb-true _ 1 inB))
       by-test false notB ofB = eqb-false _ 1 notB (are B start .1 ofB)
 
+  -- So the rules render the certificate.
   pub renders-of-sets : Renders next looms start (rulesBy looms start sets)
   renders-of-sets =
       record {

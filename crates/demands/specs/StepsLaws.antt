@@ -1,6 +1,6 @@
 -- A loom's count of steps: it is within the rank of the loom's place through every act, and so never passes six.
 -- Assumes nothing.
-use Prim.Native.Nat.{ℕ, zero, suc, _+_, _≤_, _<_}
+use Prim.Native.Nat.{ℕ, _+_, _≤_, _<_}
 use native.Mathlib.Omega.{arith}
 use native.Mathlib.Decide.{decLt}
 use mathlib.Core.Path.{_≡_, refl, ap}
@@ -21,16 +21,16 @@ use Rattle.loom.specs.Looms.{movedTo, restartedOf}
 use Rattle.agreement.specs.Steps.{unanswered, stepsOf as machineSteps, Unrestarted as MachineUnrestarted}
 use Rattle.agreement.specs.StepsLaws.{rank, rank-at-most-six, rank-rises}
 use Rattle.group.specs.declared.Group.{Group}
-use Rattle.group.specs.Group.{emptyLoom, loomAt, numberOf, groupRules, withLoom, withShared, restartedBelow}
+use Rattle.group.specs.Group.{emptyLoom, loomAt, numberOf, groupRules, withLoom, withShared}
+use Rattle.group.specs.ActsLaws.{restarted-each}
 use Rattle.group.specs.Step.{hasAnswered, stepOf, restartOf, restartAllOf}
 use Rattle.demands.specs.Acts.{Act, loomSteps, loomRestarts, allRestart, History, actedOn, historyAfter}
-use Rattle.demands.specs.KeptLaws.{kept-restarted-below}
 use Rattle.demands.specs.Fits.{WellFormed, Fits}
 use Rattle.demands.specs.FitsLaws.{turnIn, step-of-none, step-of-answered, step-of-unanswered, restart-of-none, restart-of-one, restart-of-all, fits-by-act}
 use Rattle.demands.specs.Pictured.{numbered, allNumbered}
 use Rattle.demands.specs.Steps.{stepsOf, Unrestarted}
 
--- The steps of loom k, and its restarts, are the same among the machine's acts.
+-- The steps of loom k are the same among the machine's acts.
 pub steps-numbered : (num : Side → ℕ) (looms : List Seat) (k : ℕ) (acts : List Act) → machineSteps k (allNumbered num looms acts) ≡ stepsOf k acts
 unfolding machineSteps stepsOf allNumbered numbered
 steps-numbered num looms k [] = refl
@@ -38,6 +38,7 @@ steps-numbered num looms k (loomSteps j ∷ acts) = ap (λ n. one (eqb j k) + n)
 steps-numbered num looms k (loomRestarts j ∷ acts) = steps-numbered num looms k acts
 steps-numbered num looms k (allRestart ∷ acts) = steps-numbered num looms k acts
 
+-- And so are its restarts.
 pub unrestarted-numbered : (num : Side → ℕ) (looms : List Seat) (k : ℕ) (acts : List Act) → Unrestarted k acts → MachineUnrestarted k (allNumbered num looms acts)
 unfolding allNumbered numbered
 unrestarted-numbered num looms k [] free = tt
@@ -59,12 +60,6 @@ within-with-loom n g k l room all new j below = by-test (eqb j k) refl
     by-test : (b : Bool) → eqb j k ≡ b → WithinRank (getD (set (g .looms) k l) j emptyLoom)
     by-test true e = rw (eqb-true j k e, getD-set-same (g .looms) k l emptyLoom room) new
     by-test false e = rw (getD-set-other (g .looms) k j l emptyLoom (eqb-false j k e)) (all j below)
-
-within-restarted-below : (n : ℕ) (g : Group) (m : ℕ) → m ≤ length (g .looms) → AllWithin n g → AllWithin n (restartedBelow g m)
-unfolding restartedBelow
-within-restarted-below n g zero room all = all
-within-restarted-below n g (suc m) room all =
-    within-with-loom n (restartedBelow g m) m _ (omega (arith, kept-restarted-below g m .slots)) (within-restarted-below n g m (omega arith) all) (omega arith)
 
 -- A loom that has not answered gains one in rank at least by its turn.
 going-is-unanswered : (p : Place) → hasAnswered p ≡ false → one (unanswered p) ≡ 1
@@ -122,9 +117,12 @@ module _ (table : List ℕ) (states operations : ℕ) (looms : List Seat) (good 
         by-loom (no past) = rw (restart-of-none table states operations looms good g fits k (omega arith)) all
 
   within-by-restart-of-all : AllWithin (length looms) (restartAllOf g .group)
-  within-by-restart-of-all =
-      rw (restart-of-all table states operations looms good g fits)
-      (within-restarted-below (length looms) g (g .count) (omega (arith, fits .seated .count, fits .seated .slots)) all)
+  within-by-restart-of-all j below =
+      rw (
+        restart-of-all table states operations looms good g fits,
+        restarted-each g (g .count) j (omega (arith, fits .seated .count, fits .seated .slots)) (omega (arith, fits .seated .count)),
+      )
+      (omega arith)
 
 module _ (table : List ℕ) (states operations : ℕ) (looms : List Seat) (good : WellFormed table states operations looms) where
   within-by-act : (a : Act) (h : History) → Fits states looms (h .group) → AllWithin (length looms) (h .group) →
