@@ -30,6 +30,8 @@ u8 linuktabay_open(const u8 *table, u64 length, u64 states, u64 operations, u64 
 u8 linuktabay_step(const u8 *table, u64 length, u64 states, u64 operations, u64 loom, u64 group[41], u64 out[4]);
 u8 linuktabay_restart(u64 loom, u64 group[41]);
 u8 linuktabay_restart_all(u64 group[41]);
+void linuktabay_run(const u8 *table, u64 length, u64 states, u64 operations, u64 start, u64 looms, const u64 seats[16], u32 a, u32 b,
+                    const u8 *schedule, u64 entries, u8 *marks, u64 marks_room, u64 *area, u64 words, u64 group[41], u64 out[6]);
 void linuktabay_read(const u8 *file, u64 length, u8 *table, u64 entries, u8 *schedule, u64 acts, u64 out[30]);
 u64 linuktabay_label(const u8 *a, u64 length_a, const u8 *b, u64 length_b, u64 side);
 
@@ -210,6 +212,20 @@ static void restart(u8 function) {
     say_numbers(group, 41);
 }
 
+static void run(void) {
+    struct given g = given();
+    u32 a = number(), b = number();
+    struct bytes schedule = bytes(), marks = bytes();
+    struct words area = words();
+    u64 group[41] = {0}, out[6] = {0};
+    linuktabay_run(g.table.first, g.table.length, g.states, g.operations, g.start, g.looms, g.seats, a, b, schedule.first, schedule.length, marks.first,
+                   marks.length, area.first, area.length, group, out);
+    say_numbers(out, 6);
+    say_numbers(group, 41);
+    say_bytes(marks);
+    say_words(area);
+}
+
 static void read_order(void) {
     struct bytes file = bytes(), table = bytes(), schedule = bytes();
     u64 out[30] = {0};
@@ -240,6 +256,7 @@ static void answer_call(void) {
     case 30: return open_group();
     case 31: return step();
     case 32: case 33: return restart(function);
+    case 40: return run();
     case 50: return read_order();
     case 60: return label();
     default: STOP("driver: no such function");

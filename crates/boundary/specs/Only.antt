@@ -3,7 +3,7 @@
 use Prim.Native.Nat.{ℕ}
 use mathlib.Core.Path.{_≡_, sym, _∙_}
 use mathlib.Core.Bool.{Bool}
-use mathlib.Core.List.{List}
+use mathlib.Core.List.{List, []}
 use Rattle.sets.specs.Sets.{hasOf, Union, Common, Inserted, sizeOf, lowestOf, wordBits}
 use Rattle.sets.specs.Only.{only-has, only-union, only-common, only-insert, only-size, only-lowest}
 use Rattle.cell.specs.Table.{formOf, nextOf}
@@ -12,12 +12,17 @@ use Rattle.cell.specs.Only.{only-catalogue}
 use lib.ListN.{length}
 use Rattle.recording.specs.declared.Certificate.{Certificate}
 use Rattle.recording.specs.Check.{checkOf, areaOf}
+use Rattle.group.specs.declared.Group.{Group}
 use Rattle.group.specs.declared.Opened.{Opened}
+use Rattle.schedule.specs.declared.Ran.{Ran}
+use Rattle.order.specs.Label.{bySide, trimOf}
 use Rattle.group.specs.declared.Stepped.{Stepped}
 use Rattle.group.specs.declared.Restarted.{Restarted}
 use Rattle.boundary.specs.Numbers.{movedNumber}
 use Rattle.boundary.specs.Certificates.{certificateFrom, withChecked}
-use Rattle.boundary.specs.Groups.{Opens, Steps, Restarts}
+use Rattle.boundary.specs.Groups.{withGroup, Opens, Steps, Restarts}
+use Rattle.boundary.specs.Orders.{Reads}
+use Rattle.boundary.specs.Runs.{Runs}
 
 pub only-linuktabay-has : (set state : ℕ) (r s : Bool) → r ≡ hasOf set state → s ≡ hasOf set state → r ≡ s
 only-linuktabay-has = only-has
@@ -81,3 +86,22 @@ only-linuktabay-restart answer group r s g h p q = (p .its-code ∙ sym (q .its-
 pub only-linuktabay-restart-all : (answer : Restarted) (group : List ℕ) (r s : ℕ) (g h : List ℕ)
     → Restarts answer group r g → Restarts answer group s h → (r ≡ s) × (g ≡ h)
 only-linuktabay-restart-all = only-linuktabay-restart
+
+-- The marks, the area, the final group's numbers and the counts.
+pub only-linuktabay-run : (answer : Ran) (marked words group out : List ℕ) (m n a b g h x y : List ℕ)
+    → Runs answer marked words group out m a g x → Runs answer marked words group out n b h y → (m ≡ n) × (a ≡ b) × (g ≡ h) × (x ≡ y)
+only-linuktabay-run answer marked words group out m n a b g h x y p q =
+    (p .its-marks ∙ sym (q .its-marks), p .its-area ∙ sym (q .its-area), p .its-group ∙ sym (q .its-group), p .its-counts ∙ sym (q .its-counts))
+
+-- The thirty numbers and the two rooms.
+pub only-linuktabay-read : (s table schedule out t u v w x y : List ℕ)
+    → Reads s table schedule out t v x → Reads s table schedule out u w y → (t ≡ u) × (v ≡ w) × (x ≡ y)
+only-linuktabay-read s table schedule out t u v w x y p q =
+    (p .its-table ∙ sym (q .its-table), p .its-schedule ∙ sym (q .its-schedule), p .its-order ∙ sym (q .its-order))
+
+pub only-linuktabay-label : (a b : List ℕ) (side r s : ℕ)
+    → r ≡ length (bySide side (trimOf a) (trimOf b) []) → s ≡ length (bySide side (trimOf a) (trimOf b) []) → r ≡ s
+only-linuktabay-label a b side r s p q = p ∙ sym q
+
+pub only-with-group : (ns : List ℕ) (g : Group) (r s : List ℕ) → r ≡ withGroup ns g → s ≡ withGroup ns g → r ≡ s
+only-with-group ns g r s p q = p ∙ sym q

@@ -3,4 +3,5 @@ mod of_cell;
 mod of_group;
 mod of_order;
 mod of_recording;
+mod of_schedule;
 mod of_sets;
