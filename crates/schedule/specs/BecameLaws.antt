@@ -1,32 +1,29 @@
 -- What becomes of a loom in one act on a group that fits.
 -- Assumes nothing.
-use Prim.Native.Nat.{ℕ, zero, suc, _+_, _≤_, _<_}
-use native.Mathlib.Nat.{not-suc-le-zero}
+use Prim.Native.Nat.{ℕ, _+_, _<_}
 use native.Mathlib.Omega.{arith}
 use native.Mathlib.Decide.{ℕ-discrete}
-use mathlib.Core.Path.{_≡_, refl, ap, sym, subst, _∙_}
-use mathlib.Core.Bool.{Bool, true, false, not}
+use mathlib.Core.Path.{_≡_, refl, sym, subst}
+use mathlib.Core.Bool.{Bool, true, false}
 use mathlib.Core.List.{List}
-use lib.Dec.{eqb, ltb}
+use lib.Dec.{eqb}
 use lib.ListN.{length}
 use lib.Seq.{getD-set-same, getD-set-other}
-use borrow.Author.Tests.{eqb-true, eqb-false, eq-eqb, ne-eqb, ltb-true}
+use borrow.Author.Tests.{eq-eqb, ne-eqb, ltb-true}
 use Rattle.cell.specs.Table.{both, pick}
 use Rattle.recording.specs.declared.Seat.{Seat}
-use Rattle.loom.specs.declared.Side.{Side}
 use Rattle.loom.specs.declared.Side.the-variants.{A, B}
-use Rattle.loom.specs.declared.Place.{Place}
 use Rattle.loom.specs.declared.Loom.{Loom}
 use Rattle.loom.specs.declared.Said.{Said}
 use Rattle.loom.specs.declared.Said.the-variants.{Nothing, Application, Answer}
 use Rattle.loom.specs.Numbers.{saidNumber}
 use Rattle.loom.specs.Looms.{counted, movedTo, restartedOf}
 use Rattle.group.specs.declared.Group.{Group}
-use Rattle.group.specs.Group.{emptyLoom, loomAt, withLoom, withShared, restartedAt, restartedBelow}
-use Rattle.group.specs.Step.{hasAnswered, refused, stepOf, restartOf, restartAllOf}
-use Rattle.demands.specs.KeptLaws.{kept-restarted-below}
-use Rattle.demands.specs.Fits.{Seated, WellFormed, Fits}
-use Rattle.demands.specs.FitsLaws.{turnIn, movedOn, turnTaken, step-of-answered, step-of-unanswered, restart-of-one, restart-of-all}
+use Rattle.group.specs.Group.{emptyLoom, loomAt, withLoom, withShared, restartedAt}
+use Rattle.group.specs.Step.{hasAnswered}
+use Rattle.group.specs.ActsLaws.{restarted-each}
+use Rattle.demands.specs.Fits.{WellFormed, Fits}
+use Rattle.demands.specs.FitsLaws.{turnIn, turnTaken, step-of-answered, step-of-unanswered, restart-of-one, restart-of-all}
 use Rattle.schedule.specs.declared.Act.{Act}
 use Rattle.schedule.specs.declared.Act.the-variants.{Step, Restart, RestartAll, Unknown}
 use Rattle.schedule.specs.declared.Acted.{Acted}
@@ -40,27 +37,6 @@ loom-changed g j l here = getD-set-same (g .looms) j l emptyLoom here
 
 pub loom-unchanged : (g : Group) (j k : ℕ) (l : Loom) → (k ≡ j → ⊥) → loomAt (withLoom g j l) k ≡ loomAt g k
 loom-unchanged g j k l other = getD-set-other (g .looms) j k l emptyLoom other
-
--- Restarting the looms below n restarts each of them, and no other.
-pub loom-above-restarted : (g : Group) (n k : ℕ) → n ≤ k → loomAt (restartedBelow g n) k ≡ loomAt g k
-unfolding restartedBelow
-loom-above-restarted g zero k above = refl
-loom-above-restarted g (suc n) k above =
-    loom-unchanged (restartedBelow g n) n k _ (λ same. omega arith) ∙ loom-above-restarted g n k (omega arith)
-
-pub loom-restarted-below : (g : Group) (n k : ℕ) → n ≤ length (g .looms) → k < n → loomAt (restartedBelow g n) k ≡ restartedOf (loomAt g k)
-unfolding restartedBelow
-loom-restarted-below g zero k room below = absurd (not-suc-le-zero below)
-loom-restarted-below g (suc n) k room below = by-test (loom-restarted-below g n k (omega arith)) (ℕ-discrete k n)
-  where
-    by-test : (k < n → loomAt (restartedBelow g n) k ≡ restartedOf (loomAt g k)) → Dec (k ≡ n) →
-        loomAt (restartedBelow g (suc n)) k ≡ restartedOf (loomAt g k)
-    by-test earlier (yes last) =
-        rw last
-        (loom-changed (restartedBelow g n) n (restartedOf (loomAt (restartedBelow g n) n)) (omega (arith, kept-restarted-below g n .slots))
-        ∙ ap restartedOf (loom-above-restarted g n n (omega arith)))
-    by-test earlier (no before) =
-        loom-unchanged (restartedBelow g n) n k (restartedOf (loomAt (restartedBelow g n) n)) before ∙ earlier (omega (arith, before))
 
 -- What a step says is never marked 3.
 pub said-below-three : (said : Said) → saidNumber said ≡ 3 → ⊥
@@ -137,7 +113,7 @@ module _ (table : List ℕ) (states operations : ℕ) (looms : List Seat) (good 
     unfolding actedOf stepsAfter
     by-restart-of-all =
         rw (restart-of-all table states operations looms good g fits)
-        (restarted (loom-restarted-below g (g .count) k (omega (arith, fits .seated .count, fits .seated .slots)) (omega (arith, fits .seated .count))) (λ c. refl))
+        (restarted (restarted-each g (g .count) k (omega (arith, fits .seated .count, fits .seated .slots)) (omega (arith, fits .seated .count))) (λ c. refl))
 
     pub became : (act : Act) → isNamed (length looms) act ≡ true → Became table states g k act (actedOf table states operations g act)
     became (Step j) named = by-step j (ltb-true j (length looms) named)

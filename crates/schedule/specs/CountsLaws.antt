@@ -1,28 +1,27 @@
 -- What a schedule counts, act by act, on a group that fits.
 -- Assumes nothing.
-use Prim.Native.Nat.{ℕ, zero, suc, _+_, _≤_, _<_, min, max}
+use Prim.Native.Nat.{ℕ, _≤_, _<_, min, max}
 use native.Mathlib.Omega.{arith}
-use mathlib.Core.Path.{_≡_, refl, ap, sym, subst, _∙_}
+use mathlib.Core.Path.{_≡_, refl, ap, sym, _∙_}
 use mathlib.Core.Bool.{Bool, true, false}
 use mathlib.Core.List.{List, [], _∷_}
 use mathlib.Core.Logic.{_⊎_, inl, inr}
-use lib.ListN.{length, take}
+use lib.ListN.{length}
 use borrow.Author.Tests.{ltb-true}
-use Rattle.cell.specs.Table.{both, pick, entryOf}
+use Rattle.cell.specs.Table.{both}
 use Rattle.recording.specs.declared.Seat.{Seat}
-use Rattle.loom.specs.Looms.{mostSteps, counted, movedTo, restartedOf}
+use Rattle.loom.specs.Looms.{mostSteps, movedTo}
 use Rattle.group.specs.declared.Group.{Group}
-use Rattle.group.specs.Group.{loomAt, numberOf, groupRules, withShared}
+use Rattle.group.specs.Group.{loomAt, withShared}
 use Rattle.group.specs.Step.{hasAnswered, stepOf}
 use Rattle.demands.specs.Acts.{loomSteps, loomRestarts, allRestart, untouched, actedOn}
 use Rattle.demands.specs.Fits.{WellFormed, Fits}
-use Rattle.demands.specs.FitsLaws.{turnIn, turnTaken, step-of-answered, step-of-unanswered, fits-by-act}
+use Rattle.demands.specs.FitsLaws.{turnIn, step-of-answered, step-of-unanswered, fits-by-act}
 use Rattle.schedule.specs.declared.Act.{Act}
 use Rattle.schedule.specs.declared.Act.the-variants.{Step, Restart, RestartAll, Unknown}
 use Rattle.schedule.specs.declared.Acted.{Acted}
-use Rattle.schedule.specs.declared.Ran.{Ran}
 use Rattle.schedule.specs.Acts.{actOf, isNamed, allNamed}
-use Rattle.schedule.specs.Played.{afterStep, withActed, actedOf, playedOf, marksOf}
+use Rattle.schedule.specs.Played.{actedOf, marksOf}
 use Rattle.schedule.specs.Counts.{stepsAfter, stepsOver, groupAfter}
 use Rattle.schedule.specs.BecameLaws.{loom-changed, Became, stayed, turned, restarted, became}
 

@@ -1,10 +1,9 @@
 -- Demand 3, carried to the run: document 01, "Schedules" and "What the contracts owe".
 -- Assumes nothing.
-use Prim.Native.Nat.{ℕ, _≤_, _<_}
+use Prim.Native.Nat.{ℕ, _≤_}
 use native.Mathlib.Omega.{arith}
-use mathlib.Core.Path.{_≡_, refl, ap, sym, _∙_}
+use mathlib.Core.Path.{_≡_}
 use mathlib.Core.List.{List}
-use lib.ListN.{length}
 use Rattle.recording.specs.declared.Certificate.{Certificate}
 use Rattle.recording.specs.Check.{loomsOf}
 use Rattle.loom.specs.declared.Side.{Side}

@@ -2,13 +2,13 @@
 -- Assumes nothing.
 use Prim.Native.Nat.{ℕ, _+_, _≤_, _<_}
 use native.Mathlib.Omega.{arith}
-use mathlib.Core.Path.{_≡_, refl, ap, sym, subst, _∙_}
+use mathlib.Core.Path.{_≡_, refl, ap, sym, _∙_}
 use mathlib.Core.Bool.{Bool, true, false}
-use mathlib.Core.List.{List, [], _∷_, _++_}
+use mathlib.Core.List.{List, [], _∷_}
 use lib.Dec.{eqb}
 use lib.ListN.{length}
 use borrow.Author.Tests.{ltb-true}
-use Rattle.cell.specs.Table.{pick, entryOf}
+use Rattle.cell.specs.Table.{pick}
 use Rattle.recording.specs.declared.Seat.{Seat}
 use Rattle.loom.specs.declared.Side.{Side}
 use Rattle.loom.specs.declared.Side.the-variants.{A, B}
@@ -16,7 +16,7 @@ use Rattle.loom.specs.declared.Place.{Place}
 use Rattle.loom.specs.declared.Place.the-variants.{Begin, Posted, Looking, Ready, Applied, Bound, Answered}
 use Rattle.loom.specs.declared.Said.{Said}
 use Rattle.loom.specs.declared.Said.the-variants.{Nothing, Application, Answer}
-use Rattle.loom.specs.Sides.{sameSide, register}
+use Rattle.loom.specs.Sides.{sameSide}
 use Rattle.loom.specs.Numbers.{saidNumber, saidApplied}
 use Rattle.agreement.specs.Machine.{Event, posted, applied, answered, withPost, withSaid}
 use Rattle.agreement.specs.Agreed.{Had}
@@ -26,10 +26,9 @@ use Rattle.group.specs.Group.{loomAt}
 use Rattle.group.specs.Step.{hasAnswered, stepOf}
 use Rattle.demands.specs.Acts.{Act as Done, loomSteps, loomRestarts, allRestart, History, noted, actedOn, historyAfter, untouched}
 use Rattle.demands.specs.Fits.{WellFormed, Fits}
-use Rattle.demands.specs.FitsLaws.{turnIn, turnTaken, step-of-answered, step-of-unanswered}
+use Rattle.demands.specs.FitsLaws.{turnIn, step-of-answered, step-of-unanswered}
 use Rattle.schedule.specs.declared.Act.{Act}
 use Rattle.schedule.specs.declared.Act.the-variants.{Step, Restart, RestartAll, Unknown}
-use Rattle.schedule.specs.declared.Acted.{Acted}
 use Rattle.schedule.specs.declared.Ran.{Ran}
 use Rattle.schedule.specs.Acts.{actOf, isNamed, allNamed}
 use Rattle.schedule.specs.Played.{markOf, begun, withActed, actedOf, playedOf}

@@ -1,10 +1,9 @@
 -- The longest run and the looms' step counts at every moment, and the marks of a prefix.
 -- Assumes nothing.
-use Prim.Native.Nat.{ℕ, zero, suc, _+_, _≤_, _<_, max}
-use native.Mathlib.Nat.{not-suc-le-zero}
+use Prim.Native.Nat.{ℕ, zero, suc, _≤_, _<_, max}
 use native.Mathlib.Omega.{arith}
 use native.Mathlib.Decide.{decLe}
-use mathlib.Core.Path.{_≡_, refl, ap, sym, subst, _∙_}
+use mathlib.Core.Path.{_≡_, refl, ap, _∙_}
 use mathlib.Core.Bool.{true}
 use mathlib.Core.List.{List, [], _∷_}
 use mathlib.Core.Logic.{_⊎_, inl, inr}
@@ -13,7 +12,6 @@ use Rattle.recording.specs.declared.Seat.{Seat}
 use Rattle.group.specs.declared.Group.{Group}
 use Rattle.group.specs.Group.{loomAt}
 use Rattle.demands.specs.Fits.{WellFormed, Fits}
-use Rattle.schedule.specs.declared.Acted.{Acted}
 use Rattle.schedule.specs.declared.Ran.{Ran}
 use Rattle.schedule.specs.Acts.{actOf, allNamed}
 use Rattle.schedule.specs.Played.{withActed, actedOf, playedOf, marksOf}

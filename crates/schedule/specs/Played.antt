@@ -1,7 +1,7 @@
 -- A run as a fold of a group's own step and restarts over a schedule: document 01, "Schedules".
 -- Assumes nothing.
 use Prim.Native.Nat.{ℕ, _+_, max}
-use mathlib.Core.Bool.{Bool, true, false}
+use mathlib.Core.Bool.{false}
 use mathlib.Core.List.{List, [], _∷_}
 use lib.Dec.{eqb}
 use Rattle.cell.specs.Table.{pick}

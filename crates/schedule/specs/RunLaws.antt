@@ -2,7 +2,7 @@
 -- Assumes nothing.
 use Prim.Native.Nat.{ℕ, _≤_, _<_}
 use native.Mathlib.Omega.{arith}
-use mathlib.Core.Path.{_≡_, refl, sym, ap, subst, _∙_}
+use mathlib.Core.Path.{_≡_, refl, sym}
 use mathlib.Core.Bool.{Bool, true, false}
 use mathlib.Core.List.{List, _++_}
 use lib.Dec.{ltb, eqb}
@@ -11,7 +11,6 @@ use borrow.Author.Tests.{lt-ltb, le-ltb, eq-eqb, ne-eqb, ltb-false, eqb-true, eq
 use Rattle.cell.specs.Limits.{edition}
 use Rattle.cell.specs.Table.{pick}
 use Rattle.group.specs.declared.Opened.{Opened}
-use Rattle.schedule.specs.declared.Ran.{Ran}
 use Rattle.schedule.specs.Acts.{allNamed}
 use Rattle.schedule.specs.Played.{begun, playedOf, marksOf}
 use Rattle.schedule.specs.Run.{refusalOf, codeOf, unrun, pickRan, ranOf, markedOf}

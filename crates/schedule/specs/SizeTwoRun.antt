@@ -6,7 +6,7 @@ use mathlib.Core.List.{List, [], _∷_, _++_}
 use Rattle.sets.specs.Sets.{bit, members, lowestOf}
 use Rattle.cell.specs.Table.{firstOutside, formOf}
 use Rattle.recording.specs.declared.Certificate.{Certificate}
-use Rattle.recording.specs.Check.{firstMisfit, loomsFault, faultOf, verdictOf, judgedOf, roomFor}
+use Rattle.recording.specs.Check.{firstMisfit, loomsFault, faultOf, verdictOf, judgedOf}
 use Rattle.recording.specs.Words.{advanced, unionOf, firstBy, lastBy, wordFrom, filled, setOf}
 use Rattle.recording.specs.Known.{ofA, ofB, certificateOf, sizeTwo}
 use Rattle.loom.specs.Turn.{turnOf, afterPosted, afterLooking}

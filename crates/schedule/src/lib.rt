@@ -1,7 +1,7 @@
 // A run of a schedule: a group opened afresh, each entry taken in order, one mark an entry.
 ghost use mathlib.Core.Path.{_≡_};
 ghost use mathlib.Core.List.{_++_};
-ghost use Prim.Native.Nat.{_+_, _<_, _≤_, max};
+ghost use Prim.Native.Nat.{_<_, _≤_, max};
 ghost use lib.ListN.{length, drop};
 ghost use Rattle.cell.specs.Limits.{edition};
 ghost use Rattle.cell.specs.Table.{pick};
@@ -70,8 +70,10 @@ pub fn run(
     marks: &mut [u8],
     area: &mut [u64],
 ) -> Ran
-    ensures { λ r. ⌜ (r ≡ runOf (now (table .entry)) states operations certificate (pieces a b) (now (schedule .entry)) (length (now (marks .entry))) (length (now (area .entry))))
-        × (now (marks .exit) ≡ bufferOf (now (table .entry)) states operations certificate (pieces a b) (now (schedule .entry)) (now (marks .entry)) (length (now (area .entry))))
+    ensures { λ r. ⌜ (r ≡ runOf (now (table .entry)) states operations certificate (pieces a b) (now (schedule .entry))
+        (length (now (marks .entry))) (length (now (area .entry))))
+        × (now (marks .exit) ≡ bufferOf (now (table .entry)) states operations certificate (pieces a b) (now (schedule .entry))
+        (now (marks .entry)) (length (now (area .entry))))
         × (now (area .exit) ≡ areaOf (now (table .entry)) states operations certificate (now (area .entry))) ⌝ }
 {
     let opened = group::open(table, states, operations, certificate, a, b, area);
@@ -325,7 +327,8 @@ fn play(
     marks: &mut [u8],
 ) -> Ran
     requires { ⌜ (length (now schedule) ≤ edition .entries) × (length (now schedule) ≤ length (now marks)) ⌝ }
-    ensures { λ r. ⌜ (r ≡ playedOf (now (table .entry)) states operations (begun group) (now (schedule .entry))) × (now (marks .exit) ≡ marksOf (now (table .entry)) states operations group (now (schedule .entry)) ++ drop (length (now (schedule .entry))) (now (marks .entry))) ⌝ }
+    ensures { λ r. ⌜ (r ≡ playedOf (now (table .entry)) states operations (begun group) (now (schedule .entry)))
+        × (now (marks .exit) ≡ marksOf (now (table .entry)) states operations group (now (schedule .entry)) ++ drop (length (now (schedule .entry))) (now (marks .entry))) ⌝ }
 {
     let mut ran = begun(group);
     let mut taken = 0;

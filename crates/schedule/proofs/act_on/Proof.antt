@@ -43,17 +43,20 @@ after-restart-requires-3 c κs = search needs
 returns : tie.Need-returns
 returns c =
     let a = c .before .before .before .before .before .before .args in
-    acted-step (now (a .table)) (a .states) (a .operations) (a .group) (a .act) _ _ _ (c .before .before .before .act .given .1) (c .before .step .ensures) (c .after-step .ensures)
+    acted-step (now (a .table)) (a .states) (a .operations) (a .group) (a .act) _ _ _ (c .before .before .before .act .given .1)
+    (c .before .step .ensures) (c .after-step .ensures)
 
 returns-2 : tie.Need-returns-2
 returns-2 c =
     let a = c .before .before .before .before .before .before .before .args in
-    acted-restart (now (a .table)) (a .states) (a .operations) (a .group) (a .act) _ _ _ (c .before .before .before .before .act2 .given .1) (ap (λ r. r .group) (c .before .before .restart .ensures)) (c .after-restart .ensures)
+    acted-restart (now (a .table)) (a .states) (a .operations) (a .group) (a .act) _ _ _ (c .before .before .before .before .act2 .given .1)
+    (ap (λ r. r .group) (c .before .before .restart .ensures)) (c .after-restart .ensures)
 
 returns-3 : tie.Need-returns-3
 returns-3 c =
     let a = c .before .before .before .before .before .before .args in
-    acted-restart-all (now (a .table)) (a .states) (a .operations) (a .group) (a .act) _ _ (c .before .before .before .enum-told .given .1) (ap (λ r. r .group) (c .before .before .restart-all .ensures)) (c .after-restart2 .ensures)
+    acted-restart-all (now (a .table)) (a .states) (a .operations) (a .group) (a .act) _ _ (c .before .before .before .enum-told .given .1)
+    (ap (λ r. r .group) (c .before .before .restart-all .ensures)) (c .after-restart2 .ensures)
 
 returns-4 : tie.Need-returns-4
 returns-4 c =

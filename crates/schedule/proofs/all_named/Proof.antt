@@ -1,13 +1,11 @@
 -- `schedule::all_named` meets its contract. The invariant: whether all are named from entry i on is whether all are.
 -- Assumes nothing.
-use Prim.Native.Nat.{_+_, _-_, _≤_, _<_}
+use Prim.Native.Nat.{_-_, _≤_}
 use mathlib.Core.Path.{_≡_, refl, sym, ap, _∙_}
-use mathlib.Core.Bool.{true, false}
 use native.Mathlib.Omega.{arith}
 use lib.ListN.{length, getD, drop}
 use borrow.Author.Needs.{needs}
 use borrow.Author.Tests.{not-true, not-false}
-use Rattle.cell.specs.Table.{both}
 use Rattle.schedule.specs.Acts.{actOf, isNamed, allNamed}
 use Rattle.schedule.specs.ActsLaws.{unnamed-here, named-further, named-past}
 use Rattle.schedule.proofs.all_named.Statement.{statement}

@@ -1,15 +1,14 @@
 -- `schedule::play` meets its contract. The invariant speaks of the rest: what is left to do from this run on is what there was to do, the
 -- marks written and those to come are all marks, and no later byte has changed.
 -- Assumes nothing.
-use Prim.Native.Nat.{_+_, _-_, _≤_, _<_}
+use Prim.Native.Nat.{_-_, _≤_}
 use mathlib.Core.Path.{_≡_, refl, sym, ap, _∙_}
-use mathlib.Core.List.{[], _∷_, _++_, append-nil}
+use mathlib.Core.List.{_++_}
 use native.Mathlib.Omega.{arith}
-use lib.ListN.{length, getD, set, take, drop, length-set}
+use lib.ListN.{length, take, drop, length-set}
 use denote.Ref.{now}
 use borrow.Author.Needs.{needs}
-use Rattle.schedule.specs.Acts.{actOf}
-use Rattle.schedule.specs.Played.{begun, withActed, actedOf, playedOf, marksOf}
+use Rattle.schedule.specs.Played.{begun, actedOf, playedOf, marksOf}
 use Rattle.schedule.specs.PlayedLaws.{Turned, Within, within-none, within-next, played-next, marks-next, bytes-after, played-past, marks-all}
 use Rattle.schedule.proofs.play.Statement.{statement}
 use Rattle.schedule.proofs.play.Tie as tie
