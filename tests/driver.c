@@ -33,6 +33,8 @@ u8 linuktabay_restart_all(u64 group[41]);
 void linuktabay_run(const u8 *table, u64 length, u64 states, u64 operations, u64 start, u64 looms, const u64 seats[16], u32 a, u32 b,
                     const u8 *schedule, u64 entries, u8 *marks, u64 marks_room, u64 *area, u64 words, u64 group[41], u64 out[6]);
 void linuktabay_read(const u8 *file, u64 length, u8 *table, u64 entries, u8 *schedule, u64 acts, u64 out[30]);
+u8 linuktabay_step_lent(const u8 *table, u64 length, u64 states, u64 operations, u64 own[12], u64 out[4]);
+void linuktabay_reading(const u8 *file, u64 length, u64 at, u64 count, u64 out[6]);
 u64 linuktabay_label(const u8 *a, u64 length_a, const u8 *b, u64 length_b, u64 side);
 
 enum { ROOM = 1 << 20 };
@@ -205,6 +207,40 @@ static void step(void) {
     say_numbers(group, 41);
 }
 
+/* Where the numbers of a group stand. */
+enum { COUNT, CELL, REGISTER_A, REGISTER_B, NUMBER_A, NUMBER_B, START, SET_A, SET_B, SLOTS };
+
+/* The numbers of a loom and of what it steps on and goes by, out of its group's; 0 where there is no such loom. */
+static int own_of(const u64 group[41], u64 loom, u64 own[12]) {
+    u64 count = group[COUNT];
+    if (count > 8 || loom >= count) return 0;
+    const u64 *slot = group + SLOTS + 4 * loom;
+    u64 leading = linuktabay_has(group[SET_B], group[START]), of_yielding = 0;
+    for (u64 k = 0; k < count; k++) of_yielding += group[SLOTS + 4 * k] != leading;
+    own[0] = group[START];
+    own[1] = leading;
+    own[2] = leading ? group[SET_B] : group[SET_A];
+    own[3] = of_yielding == 1;
+    own[4] = slot[0] ? group[NUMBER_B] : group[NUMBER_A];
+    for (int i = 0; i < 3; i++) own[5 + i] = group[CELL + i];
+    for (int i = 0; i < 4; i++) own[8 + i] = slot[i];
+    return 1;
+}
+
+/* A step of a group whose memory is lent: as `step`, through the record. */
+static void step_lent(void) {
+    struct bytes table = bytes();
+    u64 states = number(), operations = number(), loom = number(), group[41], own[12], out[4] = {0};
+    numbers(group, 41);
+    u8 code = own_of(group, loom, own) ? linuktabay_step_lent(table.first, table.length, states, operations, own, out) : 30;
+    for (int i = 0; i < 3 && code != 30; i++) group[CELL + i] = own[5 + i];
+    for (int i = 0; i < 4 && code != 30; i++) group[SLOTS + 4 * loom + i] = own[8 + i];
+    if (code != 0) out[3] = 0;
+    say(code);
+    say_said(out);
+    say_numbers(group, 41);
+}
+
 static void restart(u8 function) {
     u64 loom = function == 32 ? number() : 0, group[41];
     numbers(group, 41);
@@ -235,6 +271,92 @@ static void read_order(void) {
     say_bytes(schedule);
 }
 
+/* An order read field by field through the library's reader: what it hands out is judged here. */
+struct through {
+    struct bytes file;
+    u64 at, code, place;
+};
+
+static u64 refuse(struct through *r, u64 code, u64 place) {
+    if (r->code == 0) r->code = code, r->place = place;
+    return 0;
+}
+
+/* The next word, if it is from low to high; else a refusal, after which nothing is read. */
+static u64 word(struct through *r, u64 code, u64 low, u64 high) {
+    u64 said[6];
+    if (r->code != 0) return 0;
+    linuktabay_reading(r->file.first, r->file.length, r->at, 4, said);
+    if (said[0] != 0) return refuse(r, said[0], said[1]);
+    if (said[1] < low || said[1] > high) return refuse(r, code, r->at);
+    r->at = said[4];
+    return said[1];
+}
+
+/* A label: its length, then its bytes with padding; the place of its bytes and its length. */
+static void opaque(struct through *r, u64 label[2]) {
+    u64 length = word(r, 11, 0, 32), said[6];
+    if (r->code != 0) return;
+    linuktabay_reading(r->file.first, r->file.length, r->at, length, said);
+    if (said[2] != 0) return (void)refuse(r, said[2], said[3]);
+    for (u64 i = 0; i < length; i++)
+        if (r->file.first[r->at + i] < 32 || r->file.first[r->at + i] > 126) return (void)refuse(r, 11, r->at);
+    label[0] = r->at;
+    label[1] = length;
+    r->at = said[4];
+}
+
+static int is_act(u64 act, u64 looms) { return act < looms || (act >= 16 && act < 16 + looms) || act == 32; }
+
+static void looms_through(struct through *r, u64 out[30]) {
+    u64 place = r->at, sides[2] = {0};
+    u64 looms = out[6] = word(r, 7, 2, 8);
+    for (u64 k = 0; k < looms && r->code == 0; k++) {
+        out[7 + 2 * k] = word(r, 8, 0, 1);
+        out[8 + 2 * k] = word(r, 8, 0, out[3] - 1);
+        if (r->code == 0) sides[out[7 + 2 * k]]++;
+    }
+    if (r->code == 0 && (sides[0] == 0 || sides[1] == 0)) refuse(r, 9, place);
+}
+
+static void fields_through(struct through *r, u8 *table, u8 *schedule, u64 out[30]) {
+    out[2] = word(r, 2, 1, 64);
+    out[3] = word(r, 3, 1, 16);
+    out[4] = word(r, 4, out[2] * out[3], out[2] * out[3]);
+    for (u64 i = 0; i < out[4] && r->code == 0; i++) table[i] = word(r, 5, 0, out[2] - 1);
+    out[5] = r->code == 0 ? word(r, 6, 0, out[2] - 1) : 0;
+    if (r->code == 0) looms_through(r, out);
+    out[23] = word(r, 10, 1, 0xffffffff);
+    out[24] = word(r, 10, 1, 0xffffffff);
+    opaque(r, out + 25);
+    opaque(r, out + 27);
+    out[29] = word(r, 12, 0, 4096);
+    for (u64 i = 0; i < out[29] && r->code == 0; i++) {
+        u64 place = r->at, act = word(r, 13, 0, 0xffffffff);
+        if (r->code == 0 && !is_act(act, out[6])) refuse(r, 13, place);
+        schedule[i] = act;
+    }
+    if (r->code == 0 && r->at < r->file.length) refuse(r, 14, r->at);
+}
+
+static void read_through(void) {
+    static u8 read_table[1024], read_schedule[4096];
+    struct bytes file = bytes(), table = bytes(), schedule = bytes();
+    struct through r = {file, 0, 0, 0};
+    u64 out[30] = {0}, refused[30] = {0};
+    if (table.length < 1024 || schedule.length < 4096) refuse(&r, 40, 0);
+    fields_through(&r, read_table, read_schedule, out);
+    refused[0] = r.code;
+    refused[1] = r.place;
+    if (r.code == 0) {
+        memcpy(table.first, read_table, out[4]);
+        memcpy(schedule.first, read_schedule, out[29]);
+    }
+    say_numbers(r.code == 0 ? out : refused, 30);
+    say_bytes(table);
+    say_bytes(schedule);
+}
+
 /* The part lies at the beginning of its side's label, of A's for no side: the library's contract says so. */
 static void label(void) {
     struct bytes a = bytes(), b = bytes();
@@ -256,8 +378,10 @@ static void answer_call(void) {
     case 30: return open_group();
     case 31: return step();
     case 32: case 33: return restart(function);
+    case 34: return step_lent();
     case 40: return run();
     case 50: return read_order();
+    case 51: return read_through();
     case 60: return label();
     default: STOP("driver: no such function");
     }

@@ -20,7 +20,12 @@ use Rattle.group.specs.declared.Stepped.{Stepped}
 use Rattle.group.specs.declared.Restarted.{Restarted}
 use Rattle.boundary.specs.Numbers.{movedNumber}
 use Rattle.boundary.specs.Certificates.{certificateFrom, withChecked}
-use Rattle.boundary.specs.Groups.{withGroup, Opens, Steps, Restarts}
+use Rattle.boundary.specs.Groups.{inByte, inHalf, loomFrom, withGroup, withSaid, Opens, Steps, Restarts}
+use Rattle.boundary.specs.Records.{LentSteps}
+use Rattle.boundary.specs.Readings.{withReading}
+use Rattle.loom.specs.declared.Loom.{Loom}
+use Rattle.loom.specs.declared.Said.{Said}
+use Rattle.reader.specs.Reader.{readOf}
 use Rattle.boundary.specs.Orders.{Reads}
 use Rattle.boundary.specs.Runs.{Runs}
 
@@ -105,3 +110,25 @@ only-linuktabay-label a b side r s p q = p ∙ sym q
 
 pub only-with-group : (ns : List ℕ) (g : Group) (r s : List ℕ) → r ≡ withGroup ns g → s ≡ withGroup ns g → r ≡ s
 only-with-group ns g r s p q = p ∙ sym q
+
+pub only-linuktabay-step-lent : (table : List ℕ) (states operations : ℕ) (own out : List ℕ) (r s : ℕ) (g h x y : List ℕ)
+    → LentSteps table states operations own out r g x → LentSteps table states operations own out s h y → (r ≡ s) × (g ≡ h) × (x ≡ y)
+only-linuktabay-step-lent table states operations own out r s g h x y p q =
+    (p .its-code ∙ sym (q .its-code), p .its-record ∙ sym (q .its-record), p .its-word ∙ sym (q .its-word))
+
+pub only-linuktabay-reading : (s : List ℕ) (at count : ℕ) (out x y : List ℕ)
+    → x ≡ withReading out (readOf s count at) → y ≡ withReading out (readOf s count at) → x ≡ y
+only-linuktabay-reading s at count out x y p q = p ∙ sym q
+
+-- What this crate's modules lend each other.
+pub only-in-byte : (n r s : ℕ) → r ≡ inByte n → s ≡ inByte n → r ≡ s
+only-in-byte n r s p q = p ∙ sym q
+
+pub only-in-half : (n r s : ℕ) → r ≡ inHalf n → s ≡ inHalf n → r ≡ s
+only-in-half n r s p q = p ∙ sym q
+
+pub only-loom-from : (side operation place steps : ℕ) (r s : Loom) → r ≡ loomFrom side operation place steps → s ≡ loomFrom side operation place steps → r ≡ s
+only-loom-from side operation place steps r s p q = p ∙ sym q
+
+pub only-with-said : (ns : List ℕ) (said : Said) (steps : ℕ) (r s : List ℕ) → r ≡ withSaid ns said steps → s ≡ withSaid ns said steps → r ≡ s
+only-with-said ns said steps r s p q = p ∙ sym q

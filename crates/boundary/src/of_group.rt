@@ -17,14 +17,14 @@ ghost use Prim.Native.Nat.{_≤_};
 ghost use Rattle.boundary.specs.Groups.{inByte, inHalf, loomFrom, slotFrom, sharedFrom, piecesFrom, setsFrom, loomsFrom, groupFrom, withFour, withLoom, withBoard, withGroup, withSaid, Restarts, Steps, Opens};
 
 // A number of C's in a byte.
-fn in_byte(n: usize) -> u8
+pub fn in_byte(n: usize) -> u8
     ensures { λ r. ⌜ r ≡ inByte n ⌝ }
 {
     (n % 256) as u8
 }
 
 // A number of C's in a half word.
-fn in_half(n: usize) -> u32
+pub fn in_half(n: usize) -> u32
     ensures { λ r. ⌜ r ≡ inHalf n ⌝ }
 {
     (n % 4294967296) as u32
@@ -38,7 +38,7 @@ fn wide(byte: u8) -> usize
 }
 
 // The loom of four numbers.
-fn loom_from(side: usize, operation: usize, place: usize, steps: usize) -> Loom
+pub fn loom_from(side: usize, operation: usize, place: usize, steps: usize) -> Loom
     ensures { λ r. ⌜ r ≡ loomFrom side operation place steps ⌝ }
 {
     Loom {
@@ -203,7 +203,7 @@ pub extern "C" fn linuktabay_restart(loom: usize, group: &mut [usize; 41]) -> u8
 }
 
 // The numbers with what a step says written: the mark of its answer, whether it applied, the piece number and the step count.
-fn with_said(n: [usize; 4], said: Said, steps: u8) -> [usize; 4]
+pub fn with_said(n: [usize; 4], said: Said, steps: u8) -> [usize; 4]
     ensures { λ r. ⌜ r ≡ withSaid n said steps ⌝ }
 {
     let mut out = n;
