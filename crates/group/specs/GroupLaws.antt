@@ -1,6 +1,7 @@
 -- Laws of a group as a value.
 -- Assumes nothing.
-use Prim.Native.Nat.{ℕ, zero, suc, _+_, _≤_, _<_}
+use Prim.Native.Nat.{ℕ, zero, suc, _+_, _≤_, _<_, min}
+use native.Mathlib.Decide.{decLe}
 use native.Mathlib.Omega.{arith}
 use native.Mathlib.Numerals.{add-one}
 use mathlib.Core.Path.{_≡_, refl, sym, ap, subst, _∙_}
@@ -8,7 +9,7 @@ use mathlib.Core.Bool.{Bool, true, false}
 use mathlib.Core.List.{List, [], _∷_}
 use lib.Dec.{T, eqb, ltb, leb}
 use lib.ListN.{length, take, drop, getD, length-take, drop-of-length-le}
-use lib.Seq.{drop-cons, getD-take}
+use lib.Seq.{drop-cons, getD-take, take-all}
 use borrow.Author.Tests.{ltb-false, leb-false}
 use Rattle.cell.specs.Limits.{edition}
 use Rattle.cell.specs.Table.{pick, either}
@@ -50,6 +51,14 @@ unfolding leadOf
 lead-of-parts g y s w n ey es ew en =
     let leads : s ≡ leadingOf (g .start) (g .sets) = es ∙ ap other ey in
     rw (ew ∙ ap (setOf (g .sets)) leads, leads, en ∙ ap (λ x. countOf x (take (g .count) (g .looms))) ey)
+
+-- Of a list no longer than m, the first n are the first n or m, whichever is less.
+pub take-within : {A : Type 0} (n m : ℕ) (xs : List A) → length xs ≤ m → take (min n m) xs ≡ take n xs
+take-within n m xs short =
+    elim (decLe n m) [
+      | yes below ↦ let is : min n m ≡ n = omega arith in ap (λ i. take i xs) is
+      | no past ↦ let is : min n m ≡ m = omega arith in ap (λ i. take i xs) is ∙ (take-all m xs short ∙ sym (take-all n xs (omega arith)))
+    ]
 
 -- A loom that a group has is below the group's count, and the count within the limit.
 pub has-loom : (g : Group) (k : ℕ) → noLoom g k ≡ false → (k < g .count) × (g .count ≤ edition .looms)

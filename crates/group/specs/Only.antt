@@ -18,7 +18,7 @@ use Rattle.group.specs.declared.Opened.{Opened}
 use Rattle.group.specs.declared.Outcome.{Outcome}
 use Rattle.group.specs.declared.Stepped.{Stepped}
 use Rattle.group.specs.declared.Restarted.{Restarted}
-use Rattle.group.specs.Group.{setOf, numberOf}
+use Rattle.group.specs.Group.{setOf, numberOf, leadOf}
 use Rattle.group.specs.Open.{pieces, openOf}
 use Rattle.group.specs.Step.{stepOnOf, stepOf, restartOf, restartAllOf}
 
@@ -27,6 +27,9 @@ sets-only-of self side r s p q = p ∙ sym q
 
 pub numbers-only-of : (self : Numbers) (side : Side) (r s : ℕ) → r ≡ numberOf self side → s ≡ numberOf self side → r ≡ s
 numbers-only-of self side r s p q = p ∙ sym q
+
+pub group-only-lead : (self : Group) (r s : Lead) → r ≡ leadOf self → s ≡ leadOf self → r ≡ s
+group-only-lead self r s p q = p ∙ sym q
 
 pub only-open : (table : List ℕ) (states operations : ℕ) (certificate : Certificate) (a b : ℕ) (area : List ℕ) (r s : Opened) (x y : List ℕ) →
     (r ≡ openOf table states operations certificate (pieces a b) (length area)) × (x ≡ areaOf table states operations certificate area) →

@@ -1,7 +1,7 @@
 // A group of looms over one cell: opened, stepped and restarted.
 ghost use mathlib.Core.Path.{_≡_};
 ghost use mathlib.Core.Bool.{true};
-ghost use Prim.Native.Nat.{ℕ, _<_, _≤_};
+ghost use Prim.Native.Nat.{ℕ, _<_, _≤_, min};
 ghost use lib.ListN.{length, getD, take};
 ghost use Rattle.cell.specs.Limits.{edition};
 ghost use Rattle.cell.specs.Table.{pick};
@@ -370,10 +370,27 @@ pub fn step_on(
     }
 }
 
+// A count, or the limit of looms where it is past that.
+fn within(count: usize) -> usize
+    ensures { λ r. ⌜ r ≡ min count (edition .looms) ⌝ }
+{
+    if cell::LOOMS < count {
+        cell::LOOMS
+    } else {
+        count
+    }
+}
+
+// How many looms of a side there are among so many, or among all slots where these are fewer.
+fn side_count_of(looms: [Loom; 8], count: usize, side: Side) -> usize
+    ensures { λ r. ⌜ r ≡ countOf side (take count looms) ⌝ }
+{
+    side_count(looms, within(count), side)
+}
+
 impl Group {
-    // What the group's looms go by.
-    fn lead(self) -> Lead
-        requires { ⌜ self .count ≤ edition .looms ⌝ }
+    // What the group's looms go by, for any group; a group of more than 8 has 8 slots to count. It is the same after any act.
+    pub fn lead(self) -> Lead
         ensures { λ r. ⌜ r ≡ leadOf self ⌝ }
     {
         let sets = self.sets;
@@ -381,7 +398,7 @@ impl Group {
         let yields = yielding(self.start, sets);
         let side = yields.other();
         let set = sets.of(side);
-        let few = side_count(looms, self.count, yields);
+        let few = side_count_of(looms, self.count, yields);
         Lead {
             start: self.start,
             side,

@@ -1,9 +1,11 @@
 pub mod Acts
 pub mod Played
+pub mod InPlace
 pub mod Run
 pub mod Counts
 pub mod ActsLaws
 pub mod PlayedLaws
+pub mod InPlaceLaws
 pub mod RunLaws
 pub mod BecameLaws
 pub mod CountsLaws

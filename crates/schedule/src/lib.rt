@@ -2,19 +2,21 @@
 ghost use mathlib.Core.Path.{_≡_};
 ghost use mathlib.Core.List.{_++_};
 ghost use Prim.Native.Nat.{_<_, _≤_, max};
+ghost use lib.Dec.{eqb};
 ghost use lib.ListN.{length, drop};
 ghost use Rattle.cell.specs.Limits.{edition};
 ghost use Rattle.cell.specs.Table.{pick};
 ghost use Rattle.recording.specs.Check.{areaOf};
 ghost use Rattle.group.specs.Open.{pieces, noGroup};
 ghost use Rattle.schedule.specs.Acts.{actOf, isNamed, allNamed};
-ghost use Rattle.schedule.specs.Played.{markOf, afterStep, afterRestart, actedOf, begun, withActed, playedOf, marksOf};
+ghost use Rattle.schedule.specs.Played.{markOf, begun, playedOf, marksOf};
+ghost use Rattle.schedule.specs.InPlace.{noteOf, noNote, noStep, restartedBy, tallied, ranBy};
 ghost use Rattle.schedule.specs.Run.{refusalOf, codeOf, unrun, ranOf, markedOf, runOf, bufferOf};
 use group::Group;
 use group::Numbers;
 use group::Opened;
+use group::Outcome;
 use group::Sets;
-use group::Stepped;
 use loom::Loom;
 use loom::Place;
 use loom::Said;
@@ -42,6 +44,22 @@ pub struct Acted {
     pub applied: bool,
     pub steps: u8,
     pub group: Group,
+}
+
+// What an act is counted by: its mark, whether an operation was applied, and the loom's step count.
+struct Noted {
+    mark: u8,
+    applied: bool,
+    steps: u8,
+}
+
+// What is counted along a run: the entries, the answers for A and for B, the operations applied, and the longest run.
+struct Tally {
+    entries: usize,
+    a: usize,
+    b: usize,
+    applied: usize,
+    longest: usize,
 }
 
 // What a run comes to: the code, the final group, the entries, the answers for A and for B, the operations applied, and the longest run.
@@ -223,49 +241,59 @@ fn mark_of(code: u8, said: Said) -> u8
     }
 }
 
-// What a step comes to in a run.
-fn after_step(stepped: Stepped) -> Acted
-    ensures { λ r. ⌜ r ≡ afterStep stepped ⌝ }
+// The step count that a step gives: the loom's, and none where it was refused.
+fn count_given(code: u8, steps: u8) -> u8
+    ensures { λ r. ⌜ r ≡ pick (eqb code 0) steps 0 ⌝ }
 {
-    let said = stepped.said;
-    let group = stepped.group;
-    Acted {
-        mark: mark_of(stepped.code, said),
+    if code == 0 { steps } else { 0 }
+}
+
+// What a step is counted by in a run.
+fn note_of(outcome: Outcome) -> Noted
+    ensures { λ r. ⌜ r ≡ noteOf outcome ⌝ }
+{
+    let said = outcome.said;
+    let loom = outcome.loom;
+    Noted {
+        mark: mark_of(outcome.code, said),
         applied: loom::said_applied(said) == 1,
-        steps: stepped.steps,
-        group,
+        steps: count_given(outcome.code, loom.steps),
     }
 }
 
-// What a restart comes to in a run.
-fn after_restart(group: Group) -> Acted
-    ensures { λ r. ⌜ r ≡ afterRestart group ⌝ }
+// What an act that isn't a step is counted by.
+fn no_note() -> Noted
+    ensures { λ r. ⌜ r ≡ noNote ⌝ }
 {
-    Acted {
+    Noted {
         mark: 0,
         applied: false,
         steps: 0,
-        group,
     }
 }
 
-// One act on a group.
-fn act_on(group: Group, table: &[u8], states: usize, operations: usize, act: Act) -> Acted
-    ensures { λ r. ⌜ r ≡ actedOf (now (table .entry)) states operations group act ⌝ }
+// Whether an entry is no step of a loom of `count`, or these are more than 8.
+fn no_step(count: usize, entry: u8) -> bool
+    ensures { λ r. ⌜ r ≡ noStep count entry ⌝ }
+{
+    cell::LOOMS < count || count <= entry as usize
+}
+
+// A group after an act that is no step of one of its looms.
+fn restarted(group: Group, act: Act) -> Group
+    ensures { λ r. ⌜ r ≡ restartedBy group act ⌝ }
 {
     match act {
-        Act::Step(loom) => after_step(group::step(group, table, states, operations, loom)),
+        Act::Step(_) => group,
         Act::Restart(loom) => {
             let restarted = group::restart(group, loom);
-            let group = restarted.group;
-            after_restart(group)
+            restarted.group
         }
         Act::RestartAll => {
             let restarted = group::restart_all(group);
-            let group = restarted.group;
-            after_restart(group)
+            restarted.group
         }
-        Act::Unknown => after_restart(group),
+        Act::Unknown => group,
     }
 }
 
@@ -283,31 +311,13 @@ fn larger(a: usize, b: usize) -> usize
     if a < b { b } else { a }
 }
 
-// A run with no entry taken yet.
-fn begun(group: Group) -> Ran
-    ensures { λ r. ⌜ r ≡ begun group ⌝ }
-{
-    Ran {
-        code: 0,
-        group,
-        entries: 0,
-        a: 0,
-        b: 0,
-        applied: 0,
-        longest: 0,
-    }
-}
-
-impl Ran {
-    // The run with one act more. Nothing else changes a run.
-    fn with_acted(self, acted: Acted) -> Ran
+impl Tally {
+    // The tally with one act more. Nothing else changes a tally.
+    fn with_noted(self, acted: Noted) -> Tally
         requires { ⌜ (self .entries < edition .entries) × (self .a ≤ self .entries) × (self .b ≤ self .entries) × (self .applied ≤ self .entries) ⌝ }
-        ensures { λ r. ⌜ r ≡ withActed self acted ⌝ }
+        ensures { λ r. ⌜ r ≡ tallied self acted ⌝ }
     {
-        let group = acted.group;
-        Ran {
-            code: self.code,
-            group,
+        Tally {
             entries: self.entries + 1,
             a: self.a + one_if(acted.mark == 1),
             b: self.b + one_if(acted.mark == 2),
@@ -317,9 +327,24 @@ impl Ran {
     }
 }
 
-// Takes each entry in order, and writes its mark.
+// The run of a tally and the group that it has come to.
+fn finished(tally: Tally, group: Group) -> Ran
+    ensures { λ r. ⌜ r ≡ ranBy tally group ⌝ }
+{
+    Ran {
+        code: 0,
+        group,
+        entries: tally.entries,
+        a: tally.a,
+        b: tally.b,
+        applied: tally.applied,
+        longest: tally.longest,
+    }
+}
+
+// Takes each entry in order, and writes its mark. A step is taken in place, by what the looms go by from the first: no act changes that.
 fn play(
-    group: Group,
+    opening: Group,
     table: &[u8],
     states: usize,
     operations: usize,
@@ -327,19 +352,43 @@ fn play(
     marks: &mut [u8],
 ) -> Ran
     requires { ⌜ (length (now schedule) ≤ edition .entries) × (length (now schedule) ≤ length (now marks)) ⌝ }
-    ensures { λ r. ⌜ (r ≡ playedOf (now (table .entry)) states operations (begun group) (now (schedule .entry)))
-        × (now (marks .exit) ≡ marksOf (now (table .entry)) states operations group (now (schedule .entry)) ++ drop (length (now (schedule .entry))) (now (marks .entry))) ⌝ }
+    ensures { λ r. ⌜ (r ≡ playedOf (now (table .entry)) states operations (begun opening) (now (schedule .entry)))
+        × (now (marks .exit) ≡ marksOf (now (table .entry)) states operations opening (now (schedule .entry)) ++ drop (length (now (schedule .entry))) (now (marks .entry))) ⌝ }
 {
-    let mut ran = begun(group);
+    let lead = opening.lead();
+    let numbers = opening.numbers;
+    let mut group = opening;
+    let mut tally = Tally {
+        entries: 0,
+        a: 0,
+        b: 0,
+        applied: 0,
+        longest: 0,
+    };
     let mut taken = 0;
     while taken < schedule.len() {
         let entry = schedule[taken];
-        let group = ran.group;
-        let acted = act_on(group, table, states, operations, act_of(entry));
+        let mut acted = no_note();
+        if no_step(group.count, entry) {
+            let new = restarted(group, act_of(entry));
+            group = new;
+        } else {
+            let at = entry as usize;
+            let own = group.looms[at];
+            let memory = group.shared;
+            let side = own.side;
+            let number = numbers.of(side);
+            let outcome = group::step_on(lead, number, table, states, operations, memory, own);
+            let left = outcome.shared;
+            let moved = outcome.loom;
+            group.shared = left;
+            group.looms[at] = moved;
+            acted = note_of(outcome);
+        }
         marks[taken] = acted.mark;
-        let new = ran.with_acted(acted);
-        ran = new;
+        let new = tally.with_noted(acted);
+        tally = new;
         taken += 1;
     }
-    ran
+    finished(tally, group)
 }

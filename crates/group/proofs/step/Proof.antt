@@ -35,10 +35,7 @@ element-copy-out-own c =
     omega arith
 
 lead-requires : tie.Need-lead-requires
-lead-requires c κs =
-    let a = c .before .before .before .before .before .before .args in
-    let h = has-loom (a .t1) (a .loom) (sym (c .before .before .before .before .no-loom .ensures) ∙ c .before .before .before .if1 .left) in
-    omega arith
+lead-requires c κs = search needs
 
 of-requires : tie.Need-of-requires
 of-requires c κs = search needs

@@ -14,15 +14,15 @@ other-requires c κs = search needs
 of-requires : tie.Need-of-requires
 of-requires c κs = search needs
 
-side-count-requires : tie.Need-side-count-requires
-side-count-requires c κs = search needs
+side-count-of-requires : tie.Need-side-count-of-requires
+side-count-of-requires c κs = search needs
 
 returns : tie.Need-returns
 returns c =
     lead-of-parts (c .before .before .before .before .before .before .args .self) (c .before .before .before .yielding .result) (c .before .before .other .result) (c .before .of .result)
-    (c .side-count .result) (c .before .before .before .yielding .ensures) (c .before .before .other .ensures) (c .before .of .ensures)
-    (c .side-count .ensures)
+    (c .side-count-of .result) (c .before .before .before .yielding .ensures) (c .before .before .other .ensures) (c .before .of .ensures)
+    (c .side-count-of .ensures)
 
 pub lead-spec : {M : Type 1} → statement M
 lead-spec =
-    tie.close (tie.spec yielding-requires other-requires of-requires side-count-requires returns)
+    tie.close (tie.spec yielding-requires other-requires of-requires side-count-of-requires returns)
