@@ -132,7 +132,7 @@ loop-again c =
     let acted = actedBy (j .acted) (j .group) in
     let after = ap (λ t. ranBy t (j .group)) (c .with-noted .ensures) ∙ counted-apart (l .tally) (l .group) (j .group) (j .acted) in
     let turn : Turned (now (a .table)) (a .states) (a .operations) (now (a .schedule)) (l .taken) (ranBy (l .tally) (l .group)) acted (ranBy (c .with-noted .result) (j .group)) =
-        record { here = omega arith; did = did (c .before); after = after } in
+    record { here = omega arith; did = did (c .before); after = after } in
     let kept = subst (λ x. Kept (l .group) (x .group)) (sym (did (c .before))) (kept-by-acted (now (a .table)) (a .states) (a .operations) (l .group) _) in (
       omega arith,
       rw after (within-next (l .taken) (ranBy (l .tally) (l .group)) acted (l .inv .1)),
