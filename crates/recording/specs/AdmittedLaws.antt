@@ -120,24 +120,23 @@ module _ (table : List ℕ) (states operations : ℕ) (c : Certificate) (room : 
 
   -- The looms are as many as the count says, and their steps are as the code and the theorems need them.
   module _ (ok : Admitted table states operations c room) where
-    counted : length (loomsOf c) ≡ c .count
+    pub counted : length (loomsOf c) ≡ c .count
     counted = omega (arith, ok .fitted, misfit-at-most operations (loomsOf c), length-take (c .count) (c .seats))
 
     operation-fits : (k : ℕ) → k < c .count → operationAt (loomsOf c) k < operations
     operation-fits k within =
         all-fitted operations (loomsOf c) (subst (λ (n : ℕ). n ≤ firstMisfit operations (loomsOf c)) (sym counted) (ok .fitted)) k (omega (arith, counted)) .1
 
-    pub fitting : Fitting table states c
+    pub fitting : Fitting table states (loomsOf c) (c .start)
     fitting =
         record {
           start-fits = ok .start-fits;
-          few-looms = ok .few;
-          counted = counted;
+          few-looms = omega (arith, ok .few, counted);
           steps = λ k within.
               record {
                 few = ok .form .few-states;
-                leads = λ q state. good-moves table states operations (ok .form) (operationAt (loomsOf c) k) q (operation-fits k within) state .0;
-                found = λ q state. good-moves table states operations (ok .form) (operationAt (loomsOf c) k) q (operation-fits k within) state .1;
+                leads = λ q state. good-moves table states operations (ok .form) (operationAt (loomsOf c) k) q (operation-fits k (omega (arith, counted))) state .0;
+                found = λ q state. good-moves table states operations (ok .form) (operationAt (loomsOf c) k) q (operation-fits k (omega (arith, counted))) state .1;
               };
         }
 
@@ -145,5 +144,5 @@ module _ (table : List ℕ) (states operations : ℕ) (c : Certificate) (room : 
     closed =
         record {
           start-fits = ok .start-fits;
-          steps-fit = λ k q within state. fitting .steps k (omega (arith, counted)) .leads q state;
+          steps-fit = λ k q within state. fitting .steps k within .leads q state;
         }

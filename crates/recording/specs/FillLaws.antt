@@ -18,7 +18,7 @@ use Rattle.cell.specs.Table.{entryOf}
 use Rattle.recording.specs.declared.Certificate.{Certificate}
 use Rattle.recording.specs.declared.Seat.{Seat}
 use Rattle.recording.specs.Check.{loomsOf, setBy}
-use Rattle.recording.specs.Fitting.{Fitting, wordsTo, wordBy}
+use Rattle.recording.specs.Fitting.{wordsTo, wordBy}
 use Rattle.recording.specs.OrdersLaws.{single-within}
 use Rattle.recording.specs.Recording.{operationAt}
 use Rattle.recording.specs.SetLaws.{union-end}
@@ -49,43 +49,44 @@ module _ (next : ℕ → ℕ → ℕ) (looms : List Seat) (states start X : ℕ)
   word-by-prefix zero = refl
   word-by-prefix (suc k) = ap₂ bitOr (word-by-prefix k) (last-by-prefix k)
 
-module _ (table : List ℕ) (states : ℕ) (c : Certificate) (fits : Fitting table states c) (X m : ℕ) where
-  pub words-length : length (wordsTo table states c X m) ≡ m
-  words-length = length-filled (entryOf table states) (loomsOf c) states (c .start) X m
+module _ (table : List ℕ) (states : ℕ) (looms : List Seat) (start X m : ℕ) where
+  pub words-length : length (wordsTo table states looms start X m) ≡ m
+  words-length = length-filled (entryOf table states) looms states start X m
 
   -- The words below m + 1 are those below m and the word that the code makes of them, whatever stands behind.
-  pub words-more : (rest : List ℕ)
-      → wordsTo table states c X (m + 1)
-      ≡ wordsTo table states c X m ++ (wordBy table states c X (wordsTo table states c X m ++ rest) m (c .count) ∷ [])
+  words-more : (rest : List ℕ)
+      → wordsTo table states looms start X (m + 1)
+      ≡ wordsTo table states looms start X m
+      ++ (wordBy table states looms start X (wordsTo table states looms start X m ++ rest) m (length looms) ∷ [])
   unfolding filled
   words-more rest =
       rw (add-one m)
-      (ap (λ (w : ℕ). wordsTo table states c X m ++ (w ∷ []))
-      (ap (wordBy table states c X (wordsTo table states c X m) m) (fits .counted)
-      ∙ sym (word-by-prefix (entryOf table states) (loomsOf c) states (c .start) X (wordsTo table states c X m) rest m
-      (le-of-eq (sym words-length)) (c .count))))
+      (ap (λ (w : ℕ). wordsTo table states looms start X m ++ (w ∷ []))
+      (sym (word-by-prefix (entryOf table states) looms states start X (wordsTo table states looms start X m) rest m
+      (le-of-eq (sym words-length)) (length looms))))
 
-  module _ (before : List ℕ) (within : m < length before) (area : List ℕ) (so-far : area ≡ wordsTo table states c X m ++ drop m before)
-      (w : ℕ) (made : w ≡ wordBy table states c X area m (c .count)) where
+  module _ (before : List ℕ) (within : m < length before) (area : List ℕ)
+      (so-far : area ≡ wordsTo table states looms start X m ++ drop m before)
+      (w : ℕ) (made : w ≡ wordBy table states looms start X area m (length looms)) where
     pub fill-length : length area ≡ length before
     fill-length = ap length so-far ∙ simp (length-append, length-drop) (omega (arith, words-length))
 
-    one-more : wordsTo table states c X (m + 1) ≡ wordsTo table states c X m ++ (w ∷ [])
+    one-more : wordsTo table states looms start X (m + 1) ≡ wordsTo table states looms start X m ++ (w ∷ [])
     one-more =
         words-more (drop m before)
-        ∙ ap (λ (x : ℕ). wordsTo table states c X m ++ (x ∷ []))
-        (ap (λ (l : List ℕ). wordBy table states c X l m (c .count)) (sym so-far) ∙ sym made)
+        ∙ ap (λ (x : ℕ). wordsTo table states looms start X m ++ (x ∷ []))
+        (ap (λ (l : List ℕ). wordBy table states looms start X l m (length looms)) (sym so-far) ∙ sym made)
 
-    pub fill-more : set area m w ≡ wordsTo table states c X (m + 1) ++ drop (m + 1) before
+    pub fill-more : set area m w ≡ wordsTo table states looms start X (m + 1) ++ drop (m + 1) before
     fill-more =
-        ap (λ (l : List ℕ). set l m w) (so-far ∙ ap (λ (l : List ℕ). wordsTo table states c X m ++ l) (drop-cons before m 0 within))
-        ∙ set-at (wordsTo table states c X m) (getD before m 0) (drop (suc m) before) w m words-length
-        ∙ sym (append-snoc (wordsTo table states c X m) w (drop (suc m) before))
+        ap (λ (l : List ℕ). set l m w) (so-far ∙ ap (λ (l : List ℕ). wordsTo table states looms start X m ++ l) (drop-cons before m 0 within))
+        ∙ set-at (wordsTo table states looms start X m) (getD before m 0) (drop (suc m) before) w m words-length
+        ∙ sym (append-snoc (wordsTo table states looms start X m) w (drop (suc m) before))
         ∙ ap₂ (λ (l k : List ℕ). l ++ k) (sym one-more) (ap (λ (i : ℕ). drop i before) (sym (add-one m)))
 
-    pub union-more : (so : ℕ) → so ≡ unionOf 0 (wordsTo table states c X m) → bitOr so w ≡ unionOf 0 (wordsTo table states c X (m + 1))
+    pub union-more : (so : ℕ) → so ≡ unionOf 0 (wordsTo table states looms start X m) → bitOr so w ≡ unionOf 0 (wordsTo table states looms start X (m + 1))
     union-more so e =
-        ap (λ (x : ℕ). bitOr x w) e ∙ sym (union-end 0 (wordsTo table states c X m) w) ∙ ap (unionOf 0) (sym one-more)
+        ap (λ (x : ℕ). bitOr x w) e ∙ sym (union-end 0 (wordsTo table states looms start X m) w) ∙ ap (unionOf 0) (sym one-more)
 
 -- Two fills, the second in the part of the area behind the first: what the area then holds.
 pub two-parts : (ofA ofB area first second : List ℕ) (size : ℕ) → length ofA ≡ size → first ≡ ofA ++ drop size area
@@ -110,8 +111,8 @@ two-parts ofA ofB area first second size long one two =
     none = drop-of-length-le (drop size first) {i = length first - size} (le-of-eq (length-drop size first))
 
 -- The union of the words of X is the set of X.
-pub set-is : (table : List ℕ) (states : ℕ) (c : Certificate) → Fitting table states c → (X size : ℕ) → size ≡ 2 ^ c .count
-    → unionOf 0 (wordsTo table states c X size) ≡ setBy table states c X
+pub set-is : (table : List ℕ) (states : ℕ) (c : Certificate) → length (loomsOf c) ≡ c .count → (X size : ℕ) → size ≡ 2 ^ c .count
+    → unionOf 0 (wordsTo table states (loomsOf c) (c .start) X size) ≡ setBy table states c X
 unfolding setOf
-set-is table states c fits X size all =
-    ap (λ (n : ℕ). unionOf 0 (wordsTo table states c X n)) (all ∙ ap (λ (n : ℕ). 2 ^ n) (sym (fits .counted)))
+set-is table states c counted X size all =
+    ap (λ (n : ℕ). unionOf 0 (wordsTo table states (loomsOf c) (c .start) X n)) (all ∙ ap (λ (n : ℕ). 2 ^ n) (sym counted))

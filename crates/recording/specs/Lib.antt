@@ -6,6 +6,7 @@ pub mod CatalogueOrders
 pub mod Check
 pub mod CheckLaws
 pub mod Clauses
+pub mod ColumnLaws
 pub mod FillLaws
 pub mod Fitting
 pub mod FittingLaws
@@ -16,5 +17,6 @@ pub mod Recording
 pub mod SetLaws
 pub mod UnionLaws
 pub mod VerdictLaws
+pub mod WalkLaws
 pub mod Words
 pub mod WordsLaws

@@ -71,7 +71,7 @@ away-or-back start set others =
     ]
 
 -- The lowest state of a set that isn't empty is in it.
-lowest-there : (k w : ℕ) → w < 2 ^ k → (w ≡ 0 → ⊥) → bit w (lowestOf k w) ≡ 1
+pub lowest-there : (k w : ℕ) → w < 2 ^ k → (w ≡ 0 → ⊥) → bit w (lowestOf k w) ≡ 1
 lowest-there k w small some = go (decLt (lowestOf k w) k)
   where
     low : Lowest k w (lowestOf k w)

@@ -9,8 +9,8 @@ ghost use Rattle.cell.specs.Table.{entryOf};
 ghost use Rattle.cell.specs.Limits.{edition};
 ghost use Rattle.recording.specs.Recording.{one, sideCount};
 ghost use Rattle.recording.specs.Words.{advanced, unionOf};
-ghost use Rattle.recording.specs.Check.{misfitOf, firstMisfit, loomsFault, faultOf, comesBack, roomFor, verdictOf, verdictOn, setsBy, wordsOver, judgedOf, checkOf, areaOf};
-ghost use Rattle.recording.specs.Fitting.{Steps, Fitting, wordsTo, wordBy, lastIn, firstIn};
+ghost use Rattle.recording.specs.Check.{loomsOf, misfitOf, firstMisfit, loomsFault, faultOf, comesBack, roomFor, verdictOf, verdictOn, setsBy, wordsOver, judgedOf, checkOf, areaOf};
+ghost use Rattle.recording.specs.Fitting.{Steps, Fitting, seatsOf, columnsOf, wordsTo, wordBy, addedBy, firstIn};
 use cell::Formed;
 use cell::Moved;
 
@@ -52,6 +52,12 @@ pub struct Checked {
 struct Filled {
     a: u64,
     b: u64,
+}
+
+// The sides of eight seats, and their operations.
+struct Columns {
+    sides: [usize; 8],
+    operations: [usize; 8],
 }
 
 // Whether the certificate is recording over the table: code 0, else the first code that refuses it, with its place. The area has to hold
@@ -203,16 +209,57 @@ fn power(count: usize) -> usize
     1 << count
 }
 
+// The seats by column: a loop that is lent a column reads one entry of it, where an array by value would be copied for each.
+fn by_column(seats: [Seat; 8]) -> Columns
+    ensures { λ r. ⌜ r ≡ columnsOf seats ⌝ }
+{
+    let mut sides = [0; 8];
+    let mut operations = [0; 8];
+    let mut k = 0;
+    while k < cell::LOOMS {
+        let seat = seats[k];
+        sides[k] = seat.side;
+        operations[k] = seat.operation;
+        k += 1;
+    }
+    Columns { sides, operations }
+}
+
 // Writes the words of A and then those of B to the area, and answers the two sets. Later words stay as they were.
 fn fill_both(table: &[u8], states: usize, certificate: Certificate, area: &mut [u64]) -> Filled
-    requires { ⌜ Fitting (now table) states certificate ⌝ }
+    requires { ⌜ Fitting (now table) states (loomsOf certificate) (certificate .start) ⌝ }
+    requires { ⌜ length (loomsOf certificate) ≡ certificate .count ⌝ }
     requires { ⌜ roomFor (certificate .count) ≤ length (now area) ⌝ }
     ensures { λ r. ⌜ (r ≡ setsBy (now (table .entry)) states certificate)
         × (now (area .exit) ≡ wordsOver (now (table .entry)) states certificate (now (area .entry))) ⌝ }
 {
-    let size = power(certificate.count);
-    let a = fill(table, states, certificate, A, size, area);
-    let b = fill(table, states, certificate, B, size, &mut area[size..]);
+    let count = certificate.count;
+    let start = certificate.start;
+    let size = power(count);
+    let seats = certificate.seats;
+    let by = by_column(seats);
+    let sides = by.sides;
+    let operations = by.operations;
+    let a = fill(
+        table,
+        states,
+        &sides[..count],
+        &operations[..count],
+        start,
+        A,
+        size,
+        area,
+    );
+    let b = fill(
+        table,
+        states,
+        &sides[..count],
+        &operations[..count],
+        start,
+        B,
+        size,
+        &mut area[size..],
+    );
     Filled { a, b }
 }
 
@@ -220,20 +267,24 @@ fn fill_both(table: &[u8], states: usize, certificate: Certificate, area: &mut [
 fn fill(
     table: &[u8],
     states: usize,
-    certificate: Certificate,
+    sides: &[usize],
+    operations: &[usize],
+    start: usize,
     side: usize,
     size: usize,
     area: &mut [u64],
 ) -> u64
-    requires { ⌜ Fitting (now table) states certificate ⌝ }
-    requires { ⌜ size ≤ length (now area) ⌝ }
-    ensures { λ r. ⌜ (r ≡ unionOf 0 (wordsTo (now (table .entry)) states certificate side size))
-        × (now (area .exit) ≡ wordsTo (now (table .entry)) states certificate side size ++ drop size (now (area .entry))) ⌝ }
+    requires { ⌜ Fitting (now table) states (seatsOf (now sides) (now operations)) start ⌝ }
+    requires { ⌜ length (now sides) ≡ length (now operations) ⌝ }
+    requires { ⌜ (size ≡ 2 ^ length (now operations)) × (size ≤ length (now area)) ⌝ }
+    ensures { λ r. ⌜ (r ≡ unionOf 0 (wordsTo (now (table .entry)) states (seatsOf (now (sides .entry)) (now (operations .entry))) start side size))
+        × (now (area .exit) ≡ wordsTo (now (table .entry)) states (seatsOf (now (sides .entry)) (now (operations .entry))) start side size
+        ++ drop size (now (area .entry))) ⌝ }
 {
     let mut set = 0;
     let mut m = 0;
     while m < size {
-        let w = word(table, states, certificate, side, &area[..], m);
+        let w = word(table, states, sides, operations, start, side, &area[..], m);
         area[m] = w;
         set = sets::union(set, w);
         m += 1;
@@ -241,54 +292,61 @@ fn fill(
     set
 }
 
-// Word m of a side: what each of its looms adds to it as the last. The words below m stand in `earlier`.
+// Word m of a side: what each loom of m adds to it as the last, the lowest loom first. The words below m stand in `earlier`.
 fn word(
     table: &[u8],
     states: usize,
-    certificate: Certificate,
+    sides: &[usize],
+    operations: &[usize],
+    start: usize,
     side: usize,
     earlier: &[u64],
     m: usize,
 ) -> u64
-    requires { ⌜ Fitting (now table) states certificate ⌝ }
-    requires { ⌜ m < length (now earlier) ⌝ }
-    ensures { λ r. ⌜ r ≡ wordBy (now (table .entry)) states certificate side (now (earlier .entry)) m (certificate .count) ⌝ }
+    requires { ⌜ Fitting (now table) states (seatsOf (now sides) (now operations)) start ⌝ }
+    requires { ⌜ length (now sides) ≡ length (now operations) ⌝ }
+    requires { ⌜ (m < 2 ^ length (now operations)) × (m < length (now earlier)) ⌝ }
+    ensures { λ r. ⌜ r ≡ wordBy (now (table .entry)) states (seatsOf (now (sides .entry)) (now (operations .entry))) start side (now (earlier .entry)) m
+        (length (now (operations .entry))) ⌝ }
 {
     let mut set = 0;
-    let mut j = 0;
-    while j < certificate.count {
+    let mut from = 0;
+    let mut left = m as u64;
+    while left != 0 {
+        let skipped = sets::lowest(left);
+        let j = from + skipped;
+        let seat = Seat {
+            side: sides[j],
+            operation: operations[j],
+        };
         set = sets::union(
             set,
-            last_by(table, states, certificate, side, earlier, m, j),
+            last_by(table, states, seat, start, side, earlier, m, power(j)),
         );
-        j += 1;
+        left = (left >> skipped) >> 1;
+        from = j + 1;
     }
     set
 }
 
-// What loom j adds to word m as the last of an order: nothing where m lacks it, its first state where m is that loom alone, else what
-// the word without it moves to.
+// What a loom of word m adds to it as the last of an order: its first state where m is `lone`, the loom alone, else what the word without
+// it moves to.
 fn last_by(
     table: &[u8],
     states: usize,
-    certificate: Certificate,
+    seat: Seat,
+    start: usize,
     side: usize,
     earlier: &[u64],
     m: usize,
-    j: usize,
+    lone: usize,
 ) -> u64
-    requires { ⌜ Fitting (now table) states certificate ⌝ }
-    requires { ⌜ (m < length (now earlier)) × (j < certificate .count) ⌝ }
-    ensures { λ r. ⌜ r ≡ lastIn (now (table .entry)) states certificate side (now (earlier .entry)) m j ⌝ }
+    requires { ⌜ Steps (now table) states (seat .operation) ⌝ }
+    requires { ⌜ (start < states) × (lone ≤ m) × (1 ≤ lone) × (m < length (now earlier)) ⌝ }
+    ensures { λ r. ⌜ r ≡ addedBy (now (table .entry)) states seat start side (now (earlier .entry)) m lone ⌝ }
 {
-    if !sets::has(m as u64, j) {
-        return 0;
-    }
-    let seats = certificate.seats;
-    let seat = seats[j];
-    let lone = power(j);
     if m == lone {
-        return first_by(table, states, seat, side, certificate.start);
+        return first_by(table, states, seat, side, start);
     }
     advance(table, states, seat.operation, earlier[m - lone])
 }

@@ -5,7 +5,7 @@ use mathlib.Core.Path.{_≡_, sym, ap, _∙_}
 use lib.ListN.{length}
 use Rattle.cell.specs.declared.Formed.{Formed}
 use Rattle.recording.specs.declared.Filled.{Filled}
-use Rattle.recording.specs.AdmittedLaws.{admitted, fitting}
+use Rattle.recording.specs.AdmittedLaws.{admitted, counted, fitting}
 use Rattle.recording.specs.Check.{faultOf, judgement, verdictOn}
 use Rattle.recording.specs.CheckLaws.{judged-refused, judged-past, area-refused, area-past}
 use Rattle.recording.proofs.judge.Statement.{statement}
@@ -40,9 +40,9 @@ past c = ap (λ (f : Formed). f .code) (sym (c .before .before .fault .ensures))
 fill-both-requires : tie.Need-fill-both-requires
 fill-both-requires c κs =
     let args = c .before .before .before .before .before .before .args in
-    let ok = past (c .before) in (
-      fitting (args .table .now) (args .states) (args .operations) (args .certificate) (length (args .area .now)) (admitted (args .table .now) (args .states) (args .operations) (args .certificate) (length (args .area .now)) ok),
-      admitted (args .table .now) (args .states) (args .operations) (args .certificate) (length (args .area .now)) ok .enough,
+    let ok = admitted (args .table .now) (args .states) (args .operations) (args .certificate) (length (args .area .now)) (past (c .before)) in (
+      fitting (args .table .now) (args .states) (args .operations) (args .certificate) (length (args .area .now)) ok,
+      (counted (args .table .now) (args .states) (args .operations) (args .certificate) (length (args .area .now)) ok, ok .enough),
     )
 
 verdict-on-requires : tie.Need-verdict-on-requires
