@@ -12,6 +12,8 @@
 --   14 end DECIDE                           25   end if
 --                                           26   if q ∈ Q_A then return R_A
 --                                           27   else return R_B
+--                                           28   end if
+--                                           29 end DECIDE
 -- Assumes nothing.
 use Prim.Native.Nat.{ℕ}
 use mathlib.Core.Bool.{Bool, false, cond}

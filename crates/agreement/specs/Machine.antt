@@ -106,6 +106,6 @@ module _ (next : ℕ → ℕ → ℕ) (looms : List Seat) (R : Rules) where
   after [] S = S
   after (a ∷ acts) S = after acts (acted a S)
 
--- "The cell at the start, registers 0, [...] every loom at begin", and nothing has happened.
+-- As a group opens: the cell at the start, both registers 0, every loom at begin; and nothing has happened.
 abbrev pub opening : ℕ → State
 opening start = record { shared = record { cell = start; a = 0; b = 0 }; place = λ k. Begin; log = [] }

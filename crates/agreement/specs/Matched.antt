@@ -1,5 +1,6 @@
 -- How the machine of looms and Figure 2 stand to one another: place for line, register for register, answer for return.
--- The paper's A is the leading side and its B the yielding side: "if q0 ∈ Q_B, we would reverse the roles of A and B in the code".
+-- The paper's A is the leading side and its B the yielding side: "if q0 ∈ Q_B, [...] we would
+-- reverse the roles of A and B in the code".
 -- Assumes nothing.
 use Prim.Native.Nat.{ℕ}
 use mathlib.Core.Path.{_≡_}

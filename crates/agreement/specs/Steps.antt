@@ -1,4 +1,4 @@
--- The steps of one loom: document 01, "One loom's steps" and "Forms for parts of the code".
+-- The steps of one loom, of any looms: document 01, "One loom's steps" and "Forms for parts of the code". `demands` has the same of a group.
 -- Assumes nothing.
 use Prim.Native.Nat.{ℕ, _+_}
 use mathlib.Core.Bool.{Bool, true, false}

@@ -58,7 +58,7 @@ module _ {next : ℕ → ℕ → ℕ} {looms : List Seat} {start : ℕ} {R : Rul
   sets-apart A q x y = given .recording .apart q x y
   sets-apart B q x y = given .recording .apart q y x
 
-  -- "The start isn't in the set of X, or the other side has one loom."
+  -- "The start isn't in the set of [X], or [the other side] has one loom."
   pub start-or-alone : (X : Side) → (InSet next looms start (sideNumber X) start → ⊥) ⊎ (sideCount (sideNumber (other X)) looms ≡ 1)
   start-or-alone A = given .recording .start-and-A
   start-or-alone B = given .recording .start-and-B

@@ -23,6 +23,7 @@ abbrev pub pickMark : Bool → Mark → Mark → Mark
 pickMark true m k = m
 pickMark false m k = k
 
+-- The same read back: the winner and the row of state q.
 abbrev pub markOf : ℕ → ℕ → Mark
 markOf n q = pickMark (ltb q n) (wonA q) (wonB (q - n))
 
@@ -53,7 +54,7 @@ each f (suc k) = each f k ++ (f k ∷ [])
 unfoldable pub tableOf : ℕ → List ℕ
 tableOf n = each (afterZero n) (2 * n) ++ each (afterOne n) (2 * n)
 
--- The entry at a place of that table.
+-- The entry at a place of that table, as the code finds it.
 unfoldable pub entryAt : ℕ → ℕ → ℕ
 entryAt n i = pick (ltb i (2 * n)) (afterZero n i) (afterOne n (i - 2 * n))
 
@@ -61,11 +62,12 @@ entryAt n i = pick (ltb i (2 * n)) (afterZero n i) (afterOne n (i - 2 * n))
 unfoldable pub catalogueCode : ℕ → ℕ → ℕ
 catalogueCode n room = pick (outsideOf 2 (edition .looms) n) 41 (pick (ltb room (4 * n)) 40 0)
 
--- "The catalogue writes 4n bytes in table order; later bytes stay." A refusal, which has a code other than 0, writes nothing.
+-- What is written under code 0; a refusal, which has another code, writes nothing.
 abbrev pub writtenUnder : ℕ → List ℕ → List ℕ → List ℕ
 writtenUnder zero written room = written
 writtenUnder (suc code) written room = room
 
+-- "The catalogue writes 4n bytes in table order; later bytes stay." The room as the call leaves it.
 unfoldable pub catalogueRoom : ℕ → List ℕ → List ℕ
 catalogueRoom n room = writtenUnder (catalogueCode n (length room)) (tableOf n ++ drop (4 * n) room) room
 

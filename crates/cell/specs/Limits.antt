@@ -1,8 +1,9 @@
--- The limits of document 01, "What is on the order". Every definition that speaks of a limit takes it from here.
+-- The upper limits of document 01, "What is on the order". Lower limits, and the ranges of a label's bytes and of a piece number, stand in
+-- the definitions that test them.
 -- Assumes nothing.
 use Prim.Native.Nat.{ℕ}
 
--- "States 1 to 64, operations 1 to 16, looms 2 to 8, [...] labels 0 to 32 bytes, each byte 32 to 126, schedules 0 to 4,096 entries."
+-- "States 1 to 64, operations 1 to 16, looms 2 to 8, [...] labels 0 to 32 bytes, [...] schedules 0 to 4,096 entries."
 pub record Limits : Type 0 where
   pub states : ℕ
   pub operations : ℕ

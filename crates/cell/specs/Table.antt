@@ -48,7 +48,8 @@ isFitted table states o q =
     (both (ltb o (edition .operations))
     (both (ltb q states) (both (ltb (position states o q) (length table)) (ltb (entryOf table states o q) states))))
 
--- "A cell table gives, for each operation and state, the next state." Every use of a table goes through this lookup.
+-- "A cell table gives, for each operation and state, the next state." In the code every use of a table goes through this lookup. The
+-- definitions of other files take the entry itself, once they have tested the table.
 unfoldable pub nextOf : List ℕ → ℕ → ℕ → ℕ → Moved
 nextOf table states o q = pickMoved (isFitted table states o q) (To (entryOf table states o q)) Refused
 

@@ -62,9 +62,11 @@ abbrev pub pickOpened : Bool → Opened → Opened → Opened
 pickOpened true r s = r
 pickOpened false r s = s
 
+-- A refused opening: its code, and no group.
 abbrev pub unopened : ℕ → Opened
 unopened code = record { code = code; group = noGroup }
 
+-- An opening that is taken.
 abbrev pub opened : Group → Opened
 opened g = record { code = 0; group = g }
 

@@ -17,7 +17,7 @@ use Rattle.format.specs.Accepted.{verdict-bounds}
 abbrev pub longestOf : Limits → ℕ
 longestOf L = 12 + 4 * (L .states * L .operations) + 8 + 8 * L .looms + 8 + 4 + padded (L .label) + 4 + padded (L .label) + 4 + 4 * L .entries
 
--- "The longest file has 20,648 bytes": no file that is taken has more.
+-- "The longest file has 20,648 bytes": no file that is taken has more, by any limits.
 pub no-longer : (L : Limits) (s : List ℕ) → Passed (verdictOf L s) → length s ≤ longestOf L
 unfolding planOf
 no-longer L s h =
@@ -26,6 +26,7 @@ no-longer L s h =
     let second = padded-grows _ _ (B .second) in
     omega (arith, B .size, B .looms, B .count, B .end)
 
+-- And by today's limits it is that number.
 pub longest-is : longestOf edition ≡ 20648
 unfolding padOf
 longest-is = refl

@@ -17,7 +17,7 @@ use Rattle.format.specs.declared.Plan.{Plan}
 use Rattle.format.specs.Layout.{planOf}
 use Rattle.format.specs.Format.{seatsAt, verdictOf}
 
--- The table room and the schedule room: "rooms of 1,024 table and 4,096 schedule entries".
+-- The entries that the table room has to hold: "rooms of 1,024 table and 4,096 schedule entries". The other is the limit of entries.
 abbrev pub tableRoom : Limits → ℕ
 tableRoom L = L .states * L .operations
 
@@ -30,10 +30,11 @@ unfoldable pub wordsAt : List ℕ → ℕ → ℕ → List ℕ
 wordsAt s zero p = []
 wordsAt s (suc n) p = wordAt s p ∷ wordsAt s n (p + 4)
 
--- A certificate's eight seats: those read, and empty ones beyond.
+-- Eight empty seats.
 abbrev pub noSeats : List Seat
 noSeats = replicate 8 emptySeat
 
+-- A certificate's eight seats: those of the n looms from p on, and empty ones beyond.
 unfoldable pub seatsOf : List ℕ → ℕ → ℕ → List Seat
 seatsOf s n p = seatsAt s n p ++ drop n noSeats
 
@@ -73,12 +74,12 @@ acceptedOf s P = record {
   schedule = P .acts;
 }
 
--- What is returned, and what the rooms hold afterwards: "a refusal writes nothing to lent memory", "room beyond the items read stays as
--- it was".
+-- What a reading returns.
 unfoldable pub orderOf : List ℕ → Field → Order
 orderOf s (Is v) = acceptedOf s (planOf s)
 orderOf s (Not code place) = refusedOf code place
 
+-- What the two rooms hold afterwards: "a refusal writes nothing to lent memory", "room beyond the items read stays as it was".
 unfoldable pub tableAfter : List ℕ → List ℕ → Field → List ℕ
 tableAfter s room (Is v) = wordsAt s (planOf s .entries) 12 ++ drop (planOf s .entries) room
 tableAfter s room (Not code place) = room

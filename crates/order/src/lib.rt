@@ -82,6 +82,7 @@ fn seats(file: &[u8], at: usize, count: usize) -> [Seat; 8]
     seats
 }
 
+// A refused reading: its code and place, all else zero.
 fn refused(code: u8, place: usize) -> Order
     ensures { λ r. ⌜ r ≡ refusedOf code place ⌝ }
 {
@@ -109,12 +110,14 @@ fn refused(code: u8, place: usize) -> Order
     }
 }
 
+// The piece number at a position.
 fn number_at(file: &[u8], at: usize) -> u32
     ensures { λ r. ⌜ r ≡ wordAt (now (file .entry)) at ⌝ }
 {
     xdr::word_at(file, at) as u32
 }
 
+// The order of a file that isn't refused, by its plan.
 fn accepted(file: &[u8], plan: Plan) -> Order
     requires { ⌜ Small plan × (plan .looms ≤ edition .looms) ⌝ }
     ensures { λ r. ⌜ r ≡ acceptedOf (now (file .entry)) plan ⌝ }

@@ -30,6 +30,7 @@ pub record Says (table : List ℕ) (states : ℕ) (c : Certificate) (answer : Ch
   pub size-of-B : answer .b ≡ sizeOf wordBits (setBy table states c 1)
   pub members : (X q : ℕ) → Member (setBy table states c X) q ↔ InSetOf table states c X q
 
+-- Past 2 to 9 and 40, the check's answer says all of this, whatever the table, the certificate and the area's length.
 pub check-says : (table : List ℕ) (states operations : ℕ) (c : Certificate) (room : ℕ)
     → faultOf table states operations c room .code ≡ 0 → Says table states c (checkOf table states operations c room)
 check-says table states operations c room past =

@@ -55,6 +55,7 @@ faultOf table states operations c room =
     (pickFormed (leb states (c .start)) (formed 6 0) (loomsFault operations c room))
 
 -- ---- the answer
+-- A code, a place and the two sets.
 abbrev pub judgement : ℕ → ℕ → ℕ → ℕ → Judged
 judgement code place a b = record { code = code; place = place; a = a; b = b }
 
@@ -89,6 +90,7 @@ filledSets a b = record { a = a; b = b }
 abbrev pub setsBy : List ℕ → ℕ → Certificate → Filled
 setsBy table states c = filledSets (setBy table states c 0) (setBy table states c 1)
 
+-- The fault where there is one, with no sets; else the verdict.
 abbrev pub judgedBy : Formed → Judged → Judged
 judgedBy fault verdict = pickJudged (eqb (fault .code) 0) verdict (judgement (fault .code) (fault .place) 0 0)
 
@@ -97,13 +99,15 @@ unfoldable pub judgedOf : List ℕ → ℕ → ℕ → Certificate → ℕ → J
 judgedOf table states operations c room =
     judgedBy (faultOf table states operations c room) (verdictOn c (setBy table states c 0) (setBy table states c 1))
 
+-- A code, a place and the two sizes.
 abbrev pub checked : ℕ → ℕ → ℕ → ℕ → Checked
 checked code place a b = record { code = code; place = place; a = a; b = b }
 
--- "The check's answer is a code, a place and the number of states in each set." "Set sizes are given with 0 and 20 to 22, else both 0."
+-- The sizes of the sets in place of the sets: of no sets, 0. "Set sizes are given with 0 and 20 to 22, else both 0."
 abbrev pub sizesOf : Judged → Checked
 sizesOf j = checked (j .code) (j .place) (sizeOf wordBits (j .a)) (sizeOf wordBits (j .b))
 
+-- "The check's answer is a code, a place and the number of states in each set."
 unfoldable pub checkOf : List ℕ → ℕ → ℕ → Certificate → ℕ → Checked
 checkOf table states operations c room = sizesOf (judgedOf table states operations c room)
 

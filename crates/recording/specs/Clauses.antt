@@ -26,6 +26,6 @@ NoneShared table states c = (q : ℕ) → InSetOf table states c 0 q → InSetOf
 abbrev pub ReturnsTo : List ℕ → ℕ → Certificate → ℕ → ℕ → Type 0
 ReturnsTo table states c X Y = InSetOf table states c X (c .start) × (sideCount Y (loomsOf c) ≡ 1 → ⊥)
 
--- Definition 4, by a certificate over a table.
+-- Definition 4 with all its clauses, by a certificate over a table.
 abbrev pub RecordingOf : List ℕ → ℕ → Certificate → Type 0
 RecordingOf table states c = Recording (entryOf table states) (loomsOf c) (c .start)

@@ -35,14 +35,15 @@ howMany m [] = 0
 howMany m (n ∷ marks) = pick (eqb n m) 1 0 + howMany m marks
 
 -- Loom k's steps after an act that was marked m; c is how many there were before it. A step of the loom counts, unless it was refused with
--- 31, which is mark 3; a restart of it, or of all, begins anew.
+-- 31, which is mark 3; a restart of it, or of all, begins anew. In a run that isn't refused no step is refused otherwise: 13 has refused
+-- looms that aren't there, and 32 never comes (`always-fits` of `demands`).
 unfoldable pub stepsAfter : ℕ → Act → ℕ → ℕ → ℕ
 stepsAfter k (Step j) m c = pick (both (eqb j k) (not (eqb m 3))) 1 0 + c
 stepsAfter k (Restart j) m c = pick (eqb j k) 0 c
 stepsAfter k RestartAll m c = 0
 stepsAfter k Unknown m c = c
 
--- The same over a schedule and its marks.
+-- Loom k's steps after a schedule with these marks; c is how many there were before it.
 unfoldable pub stepsOver : ℕ → List ℕ → List ℕ → ℕ → ℕ
 stepsOver k [] marks c = c
 stepsOver k (e ∷ es) [] c = c
@@ -58,7 +59,7 @@ pub record IsLongest (n : ℕ) (schedule marks : List ℕ) (longest : ℕ) : Typ
   pub bounds : (i k : ℕ) → k < n → countOver k (take i schedule) (take i marks) ≤ longest
   pub attained : (i : ℕ) × (k : ℕ) × (i ≤ length schedule) × (k < n) × (countOver k (take i schedule) (take i marks) ≡ longest)
 
--- "ready: applies its operation to the cell": whether an act on a group is a step of a loom at ready.
+-- Whether a place is ready.
 abbrev pub isReady : Place → Bool
 isReady Begin = false
 isReady Posted = false
@@ -68,6 +69,7 @@ isReady Applied = false
 isReady (Bound s) = false
 isReady (Answered s) = false
 
+-- "ready: applies its operation to the cell": whether an act on a group is a step of a loom at ready.
 abbrev pub applies : Group → Act → Bool
 applies g (Step k) = isReady (loomAt g k .place)
 applies g (Restart k) = false

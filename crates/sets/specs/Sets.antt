@@ -1,5 +1,5 @@
 -- A set of states, kept as one number: document 01, "Cell and certificate".
--- Nothing here speaks of a width: a set of one word and a set of four are the same definitions.
+-- No definition but `wordBits` speaks of a width: a set of one word and a set of four are the same definitions.
 -- Assumes nothing.
 use Prim.Native.Nat.{ℕ, zero, suc, _/_, _%_, _^_, min, max}
 use mathlib.Core.Path.{_≡_}

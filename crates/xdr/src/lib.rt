@@ -25,6 +25,7 @@ pub fn reaches(length: usize, at: usize, count: usize) -> bool
     false
 }
 
+// A byte, as a number of the machine.
 fn wide(byte: u8) -> usize
     ensures { λ r. ⌜ (r ≡ byte) × (r < 256) ⌝ }
 {

@@ -8,7 +8,6 @@
 
 mod acts;
 mod done;
-mod options;
 mod orders;
 mod refusals;
 mod round;
@@ -17,9 +16,34 @@ mod schedules;
 mod walk;
 
 use done::Done;
-use options::{Options, Part};
+use second::asking::call::{ended, Call};
 use second::asking::session::{Go, Session};
 use std::process::ExitCode;
+
+#[derive(Clone, Copy)]
+enum Part {
+    Walk,
+    Runs,
+    Orders,
+}
+
+impl Part {
+    fn named(name: &str) -> Option<Part> {
+        match name {
+            "walk" => Some(Part::Walk),
+            "runs" => Some(Part::Runs),
+            "orders" => Some(Part::Orders),
+            _ => None,
+        }
+    }
+}
+
+const CALL: Call<Part> = Call {
+    usage: "campaign [--count N] [--seed S] PART.. -- DRIVER [ARGS..]
+PART: walk runs orders",
+    cases: ("--count", 200),
+    part: ("part", Part::named),
+};
 
 fn run_all(session: &mut Session, parts: &[Part], done: &mut Done) -> Go {
     parts.iter().try_for_each(|part| match part {
@@ -32,27 +56,13 @@ fn run_all(session: &mut Session, parts: &[Part], done: &mut Done) -> Go {
 }
 
 fn main() -> ExitCode {
-    let options = match Options::given(std::env::args().skip(1)) {
-        Ok(options) => options,
-        Err(wrong) => {
-            eprintln!("{wrong}\n{}", options::USAGE);
-            return ExitCode::from(2);
-        }
-    };
-    let mut session = match Session::start(&options.driver, options.count, options.seed) {
-        Ok(session) => session,
-        Err(wrong) => {
-            eprintln!("the driver doesn't start: {wrong}");
-            return ExitCode::from(2);
-        }
+    let (options, mut session) = match CALL.begin() {
+        Ok(begun) => begun,
+        Err(code) => return code,
     };
     let mut done = Done::default();
     // A stop has left its reason in the session, which reports it.
     let _ = run_all(&mut session, &options.parts, &mut done);
     println!("{}; {} differences; seed {}", done.line(), session.differences(), options.seed);
-    if session.finish() {
-        ExitCode::SUCCESS
-    } else {
-        ExitCode::FAILURE
-    }
+    ended(session.finish())
 }

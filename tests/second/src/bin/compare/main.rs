@@ -6,32 +6,24 @@
 //! trial.
 
 mod floors;
-mod options;
 
-use options::Options;
-use second::asking::session::Session;
+use floors::Floor;
+use second::asking::call::{ended, Call};
 use std::process::ExitCode;
 
+const CALL: Call<Floor> = Call {
+    usage: "compare [--cases N] [--seed S] FLOOR.. -- DRIVER [ARGS..]
+FLOOR: sets cell recording group lent schedule order reader label",
+    cases: ("--cases", 10_000),
+    part: ("floor", Floor::named),
+};
+
 fn main() -> ExitCode {
-    let options = match Options::given(std::env::args().skip(1)) {
-        Ok(options) => options,
-        Err(wrong) => {
-            eprintln!("{wrong}\n{}", options::USAGE);
-            return ExitCode::from(2);
-        }
-    };
-    let mut session = match Session::start(&options.driver, options.cases, options.seed) {
-        Ok(session) => session,
-        Err(wrong) => {
-            eprintln!("the driver doesn't start: {wrong}");
-            return ExitCode::from(2);
-        }
+    let (options, mut session) = match CALL.begin() {
+        Ok(begun) => begun,
+        Err(code) => return code,
     };
     // A stop has left its reason in the session, which reports it.
-    let _ = floors::run_all(&mut session, &options.floors);
-    if session.finish() {
-        ExitCode::SUCCESS
-    } else {
-        ExitCode::FAILURE
-    }
+    let _ = floors::run_all(&mut session, &options.parts);
+    ended(session.finish())
 }
