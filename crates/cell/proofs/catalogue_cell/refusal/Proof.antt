@@ -1,6 +1,7 @@
 -- `cell::catalogue_cell::refusal` meets its contract: each way out is one of the code's laws.
 -- Assumes nothing.
 use mathlib.Core.Path.{sym}
+use native.Mathlib.Omega.{arith}
 use borrow.Author.Needs.{needs}
 use Rattle.cell.specs.CatalogueLaws.{no-cell-below, no-cell-above, room-too-short, room-enough}
 use Rattle.cell.proofs.catalogue_cell.refusal.Statement.{statement}
@@ -10,7 +11,7 @@ returns : tie.Need-returns
 returns c = sym (no-cell-below _ _ (c .if1 .taken))
 
 returns-2 : tie.Need-returns-2
-returns-2 c = sym (no-cell-above _ _ (c .before .if1 .left) (c .if2 .taken))
+returns-2 c = sym (no-cell-above _ _ (c .before .if1 .left) (omega (arith, c .if2 .taken)))
 
 mul-if3 : tie.Need-mul-if3
 mul-if3 c = search needs
