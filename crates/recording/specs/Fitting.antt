@@ -3,6 +3,7 @@
 -- Assumes nothing.
 use Prim.Native.Nat.{ℕ, _^_, _≤_, _<_}
 use mathlib.Core.Path.{_≡_}
+use mathlib.Core.Bool.{cond}
 use mathlib.Core.List.{List}
 use lib.Dec.{eqb}
 use lib.ListN.{length}
@@ -13,7 +14,7 @@ use Rattle.recording.specs.declared.Seat.{Seat}
 use Rattle.recording.specs.declared.Certificate.{Certificate}
 use Rattle.recording.specs.Check.{loomsOf}
 use Rattle.recording.specs.Recording.{operationAt}
-use Rattle.recording.specs.Words.{pickSet, lastBy, wordFrom, filled}
+use Rattle.recording.specs.Words.{lastBy, wordFrom, filled}
 
 -- The lookup of this operation is not refused in any state, and leads to a state.
 pub record Steps (table : List ℕ) (states operation : ℕ) : Type 0 where
@@ -41,4 +42,4 @@ abbrev pub lastIn : List ℕ → ℕ → Certificate → ℕ → List ℕ → �
 lastIn table states c X earlier m j = lastBy (entryOf table states) (loomsOf c) states (c .start) X earlier m j
 
 abbrev pub firstIn : List ℕ → ℕ → Seat → ℕ → ℕ → ℕ
-firstIn table states l X start = pickSet (eqb (l .side) X) (2 ^ entryOf table states (l .operation) start) 0
+firstIn table states l X start = cond (eqb (l .side) X) (2 ^ entryOf table states (l .operation) start) 0
