@@ -103,5 +103,5 @@ module _ (table : List ℕ) (states operations : ℕ) where
         omega (
           arith,
           applied-over es (withActed r x) (fits-acted table states operations looms good (r .group) fits (actOf e)) (both-named .1),
-          ap (λ t. one t) (applied-in-act (r .group) fits (actOf e) (both-named .0)),
+          ap one (applied-in-act (r .group) fits (actOf e) (both-named .0)),
         )
