@@ -2,7 +2,7 @@
 -- Assumes nothing.
 use Prim.Native.Nat.{ℕ, zero, suc}
 use mathlib.Core.Path.{_≡_, refl, ap, sym, _∙_}
-use mathlib.Core.Bool.{Bool, true, false, cond}
+use mathlib.Core.Bool.{Bool, true, false, cond, _&&_}
 use mathlib.Core.Option.{none, some}
 use mathlib.Core.List.{List, _∷_}
 use lib.Dec.{eqb}
@@ -12,7 +12,7 @@ use Rattle.loom.specs.declared.Side.the-variants.{A, B}
 use Rattle.loom.specs.declared.Place.the-variants.{Looking, Ready, Bound}
 use Rattle.loom.specs.declared.Shared.{Shared}
 use Rattle.loom.specs.Sides.{other, sameSide, register, withCell}
-use Rattle.loom.specs.Turn.{Rules, Turn, turnOf, pickPlace, pickSide, decided, both, looks, afterPosted, afterLooking}
+use Rattle.loom.specs.Turn.{Rules, Turn, turnOf, decided, looks, afterPosted, afterLooking}
 use Rattle.agreement.specs.Machine.{Filled, Event, withPost, withSaid}
 use Rattle.agreement.specs.Teams.{other-other, same-as-itself}
 use Rattle.agreement.specs.LogLaws.{cell-kept, register-written, register-kept, register-untouched}
@@ -61,14 +61,14 @@ Proper none = Unit {0}
 Proper (some v) = Filled v
 
 -- Of two lines of one team, either is of that team.
-pub team-of-pick : (b : Bool) (X : Team) (x y : Access) → teamOfAccess x ≡ X → teamOfAccess y ≡ X → teamOfAccess (cond b x y) ≡ X
-team-of-pick true X x y hx hy = hx
-team-of-pick false X x y hx hy = hy
+pub team-of-cond : (b : Bool) (X : Team) (x y : Access) → teamOfAccess x ≡ X → teamOfAccess y ≡ X → teamOfAccess (cond b x y) ≡ X
+team-of-cond true X x y hx hy = hx
+team-of-cond false X x y hx hy = hy
 
 -- The place of one of two lines.
-pub place-of-pick : (L : Side) (b : Bool) (x y : Access) → placeAt L (cond b x y) ≡ pickPlace b (placeAt L x) (placeAt L y)
-place-of-pick L true x y = refl
-place-of-pick L false x y = refl
+pub place-of-cond : (L : Side) (b : Bool) (x y : Access) → placeAt L (cond b x y) ≡ cond b (placeAt L x) (placeAt L y)
+place-of-cond L true x y = refl
+place-of-cond L false x y = refl
 
 -- Local computation stays in the code.
 pub ahead-in-code : (G : Setting) (l : Line) (q : Value) → teamOfAccess (ahead G l q) ≡ teamOfLine l
@@ -76,23 +76,23 @@ unfolding ahead
 ahead-in-code G line5 q = refl
 ahead-in-code G line6 q = refl
 ahead-in-code G line7 q =
-    team-of-pick (test (λ s. eqb s (G .q0)) q) teamA at8 (cond (test (G .inQA) q) at11 at12) refl (team-of-pick (test (G .inQA) q) teamA at11 at12 refl refl)
+    team-of-cond (test (λ s. eqb s (G .q0)) q) teamA at8 (cond (test (G .inQA) q) at11 at12) refl (team-of-cond (test (G .inQA) q) teamA at11 at12 refl refl)
 ahead-in-code G line9 q = refl
-ahead-in-code G line11 q = team-of-pick (test (G .inQA) q) teamA at11 at12 refl refl
+ahead-in-code G line11 q = team-of-cond (test (G .inQA) q) teamA at11 at12 refl refl
 ahead-in-code G line16 q = refl
 ahead-in-code G line17 q = refl
 ahead-in-code G line18 q =
-    team-of-pick
+    team-of-cond
     (test (λ s. eqb s (G .q0)) q)
     teamB
     (cond (G .loneB) at19 at22)
     (cond (test (G .inQA) q) at26 at27)
-    (team-of-pick (G .loneB) teamB at19 at22 refl refl)
-    (team-of-pick (test (G .inQA) q) teamB at26 at27 refl refl)
+    (team-of-cond (G .loneB) teamB at19 at22 refl refl)
+    (team-of-cond (test (G .inQA) q) teamB at26 at27 refl refl)
 ahead-in-code G line20 q = refl
 ahead-in-code G line22 q = refl
 ahead-in-code G line23 q = refl
-ahead-in-code G line26 q = team-of-pick (test (G .inQA) q) teamB at26 at27 refl refl
+ahead-in-code G line26 q = team-of-cond (test (G .inQA) q) teamB at26 at27 refl refl
 
 -- The memory of the looms and the objects of the figure.
 pub record Same (L : Side) (m : Shared) (M : Objects) : Type 0 where
@@ -111,7 +111,7 @@ pub record Equal (L : Side) (G : Setting) (X : Team) (t : Turn) (d : Done) : Typ
 pub leading-looks : (R : Rules) → looks R (R .leading) ≡ false
 leading-looks R = by-side (R .leading) (R .yieldsAlone)
   where
-    by-side : (L : Side) (b : Bool) → both b (sameSide L (other L)) ≡ false
+    by-side : (L : Side) (b : Bool) → b && sameSide L (other L) ≡ false
     by-side A true = refl
     by-side A false = refl
     by-side B true = refl
@@ -120,7 +120,7 @@ leading-looks R = by-side (R .leading) (R .yieldsAlone)
 pub yielding-looks : (R : Rules) → looks R (other (R .leading)) ≡ R .yieldsAlone
 yielding-looks R = rw (same-as-itself (other (R .leading))) (by-test (R .yieldsAlone))
   where
-    by-test : (b : Bool) → both b true ≡ b
+    by-test : (b : Bool) → b && true ≡ b
     by-test true = refl
     by-test false = refl
 
@@ -157,7 +157,7 @@ module _ (next : ℕ → ℕ → ℕ) (looms : List Seat) (R : Rules) where
       Bound (decided R q) ≡ placeAt (R .leading) (cond (R .inLeading q) x y)
   decided-is-line q x y hx hy = by-test (R .inLeading q)
     where
-      by-test : (b : Bool) → Bound (pickSide b (R .leading) (other (R .leading))) ≡ placeAt (R .leading) (cond b x y)
+      by-test : (b : Bool) → Bound (cond b (R .leading) (other (R .leading))) ≡ placeAt (R .leading) (cond b x y)
       by-test true = sym hx
       by-test false = sym hy
 
@@ -166,18 +166,18 @@ module _ (next : ℕ → ℕ → ℕ) (looms : List Seat) (R : Rules) where
   unfolding afterPosted ahead
   place-after-line-six q =
       rw
-      (leading-looks R, place-of-pick (R .leading) (eqb q (R .start)) at8 (cond (R .inLeading q) at11 at12))
-      (ap (λ p. pickPlace (eqb q (R .start)) Ready p) (decided-is-line q at11 at12 refl refl))
+      (leading-looks R, place-of-cond (R .leading) (eqb q (R .start)) at8 (cond (R .inLeading q) at11 at12))
+      (ap (λ p. cond (eqb q (R .start)) Ready p) (decided-is-line q at11 at12 refl refl))
 
   pub place-after-line-seventeen : (q : ℕ) → afterPosted R (other (R .leading)) q ≡ placeAt (R .leading) (ahead (settingOf next looms R) line18 (some q))
   unfolding afterPosted ahead
   place-after-line-seventeen q =
       rw (
         yielding-looks R,
-        place-of-pick (R .leading) (eqb q (R .start)) (cond (R .yieldsAlone) at19 at22) (cond (R .inLeading q) at26 at27),
-        place-of-pick (R .leading) (R .yieldsAlone) at19 at22,
+        place-of-cond (R .leading) (eqb q (R .start)) (cond (R .yieldsAlone) at19 at22) (cond (R .inLeading q) at26 at27),
+        place-of-cond (R .leading) (R .yieldsAlone) at19 at22,
       )
-      (ap (λ p. pickPlace (eqb q (R .start)) (pickPlace (R .yieldsAlone) Looking Ready) p) (decided-is-line q at26 at27 refl refl))
+      (ap (λ p. cond (eqb q (R .start)) (cond (R .yieldsAlone) Looking Ready) p) (decided-is-line q at26 at27 refl refl))
 
   -- Line 19: a register that holds 0 was never written.
   pub place-after-line-nineteen : (m : Shared) (r q : Value) → Proper r → register m (R .leading) ≡ number r →

@@ -12,6 +12,7 @@ use lib.ListN.{length}
 use borrow.Author.Tests.{eq-eqb, ne-eqb, eqb-true}
 use Rattle.recording.specs.declared.Seat.{Seat}
 use Rattle.recording.specs.Recording.{sideAt, operationAt, one, sideCount, times, FirstIs, Order, reached}
+use Rattle.recording.specs.OrdersLaws.{one-at-most}
 
 -- How often a loom stands in a sequence with one more at its end.
 pub times-of-one-more : (j k : ℕ) (us : List ℕ) → times j (us ++ (k ∷ [])) ≡ times j us + one (eqb k j)
@@ -25,11 +26,6 @@ not-itself j k apart = ap one (ne-eqb k j (λ e. apart (sym e)))
 -- Loom k is k, once.
 pub once-itself : (k : ℕ) → one (eqb k k) ≡ 1
 once-itself k = ap one (eq-eqb k k refl)
-
--- A test counts at most one.
-pub at-most-once : (b : Bool) → one b ≤ 1
-at-most-once true = omega arith
-at-most-once false = omega arith
 
 -- A loom other than k that is not in the sequence is not in it with k at its end.
 pub not-in-one-more : (j k : ℕ) (us : List ℕ) → (j ≡ k → ⊥) → times j us ≡ 0 → times j (us ++ (k ∷ [])) ≡ 0
@@ -51,7 +47,7 @@ pub order-of-one : (looms : List Seat) (X k : ℕ) → k < length looms → side
 order-of-one looms X k here side =
     record {
       looms-of-it = λ j past. omega (arith, not-itself j k (λ e. omega arith));
-      each-once = λ j. omega (arith, at-most-once (eqb k j));
+      each-once = λ j. omega (arith, one-at-most (eqb k j));
       first-of-X = side;
     }
 

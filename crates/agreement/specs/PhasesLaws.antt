@@ -3,7 +3,7 @@
 use Prim.Native.Nat.{ℕ, zero, suc, _<_}
 use native.Mathlib.Omega.{arith}
 use mathlib.Core.Path.{_≡_, refl, ap, sym, _∙_}
-use mathlib.Core.Bool.{Bool, true, false, cond}
+use mathlib.Core.Bool.{Bool, true, false, cond, _&&_}
 use mathlib.Core.Logic.{_⊎_, inl, inr}
 use mathlib.Core.List.{List, [], _∷_, _++_}
 use lib.Dec.{eqb, ltb}
@@ -17,7 +17,7 @@ use Rattle.loom.specs.declared.Place.{Place}
 use Rattle.loom.specs.declared.Place.the-variants.{Begin, Posted, Looking, Ready, Applied, Bound, Answered}
 use Rattle.loom.specs.declared.Shared.{Shared}
 use Rattle.loom.specs.Sides.{sideNumber, other, sameSide, register, withRegister, withCell}
-use Rattle.loom.specs.Turn.{Rules, turnOf, pickPlace, decided, both, looks, afterPosted, afterLooking}
+use Rattle.loom.specs.Turn.{Rules, turnOf, decided, looks, afterPosted, afterLooking}
 use Rattle.agreement.specs.Machine.{Filled, Event, posted, applied, answered, Act, step, restart, restartAll, EachStep, State, sideOf, changedAt, withPost, withSaid, turned, replaced, steppedFrom, stepped, acted, after, opening}
 use Rattle.agreement.specs.Agreed.{NoneApplied}
 use Rattle.agreement.specs.Fitted.{Fitted}
@@ -86,7 +86,7 @@ module _ {next : ℕ → ℕ → ℕ} {looms : List Seat} {start : ℕ} {R : Rul
   pub looks-yields : (s : Side) → looks R s ≡ true → (s ≡ other (R .leading)) × (R .yieldsAlone ≡ true)
   looks-yields s = by-test (R .yieldsAlone)
     where
-      by-test : (b : Bool) → both b (sameSide s (other (R .leading))) ≡ true → (s ≡ other (R .leading)) × (b ≡ true)
+      by-test : (b : Bool) → b && sameSide s (other (R .leading)) ≡ true → (s ≡ other (R .leading)) × (b ≡ true)
       by-test true e = (same-side s (other (R .leading)) e, refl)
       by-test false e = absurd (let z : _≡_ {A = ℕ} 0 1 = cc in omega arith)
 
@@ -107,7 +107,7 @@ module _ {next : ℕ → ℕ → ℕ} {looms : List Seat} {start : ℕ} {R : Rul
   stands-at-start phase k q at-start look apply =
       rw (eq-eqb q (R .start) (at-start ∙ sym (given .renders .the-start))) (by-test (looks R (sideOf looms k)) refl)
     where
-      by-test : (b : Bool) → looks R (sideOf looms k) ≡ b → Stands next looms start R phase k (pickPlace b Looking Ready)
+      by-test : (b : Bool) → looks R (sideOf looms k) ≡ b → Stands next looms start R phase k (cond b Looking Ready)
       by-test true e = (looks-yields (sideOf looms k) e .0, looks-yields (sideOf looms k) e .1, look)
       by-test false e = apply e
 

@@ -1,7 +1,7 @@
 -- The steps of one loom, of any looms: document 01, "One loom's steps" and "Forms for parts of the code". `demands` has the same of a group.
 -- Assumes nothing.
 use Prim.Native.Nat.{ℕ, _+_}
-use mathlib.Core.Bool.{Bool, true, false}
+use mathlib.Core.Bool.{Bool, true, false, cond, _&&_}
 use mathlib.Core.List.{List, [], _∷_}
 use lib.Dec.{T, eqb, ltb}
 use lib.ListN.{length}
@@ -9,7 +9,7 @@ use Rattle.recording.specs.declared.Seat.{Seat}
 use Rattle.recording.specs.Recording.{one}
 use Rattle.loom.specs.declared.Place.{Place}
 use Rattle.loom.specs.declared.Place.the-variants.{Begin, Posted, Looking, Ready, Applied, Bound, Answered}
-use Rattle.loom.specs.Turn.{Rules, both}
+use Rattle.loom.specs.Turn.{Rules}
 use Rattle.agreement.specs.Machine.{Act, step, restart, restartAll, State, acted}
 
 -- How often loom k steps among the acts.
@@ -36,16 +36,11 @@ unanswered Applied = true
 unanswered (Bound x) = true
 unanswered (Answered x) = false
 
--- 0 where the test holds, else c.
-abbrev pub zeroIf : Bool → ℕ → ℕ
-zeroIf true c = 0
-zeroIf false c = c
-
 -- Loom k's count after one act on the state S. "The number of this loom's steps since it opened or last restarted, refused ones not
 -- counted": a step of no loom is refused, and a step of a loom that has answered.
 unfoldable pub counted : List Seat → ℕ → Act → State → ℕ → ℕ
-counted looms k (step j v) S c = one (both (eqb j k) (both (ltb k (length looms)) (unanswered (S .place k)))) + c
-counted looms k (restart j) S c = zeroIf (eqb j k) c
+counted looms k (step j v) S c = one (eqb j k && (ltb k (length looms) && unanswered (S .place k))) + c
+counted looms k (restart j) S c = cond (eqb j k) 0 c
 counted looms k restartAll S c = 0
 
 -- Its count after all the acts; c is its count before them.

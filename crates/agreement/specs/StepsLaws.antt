@@ -3,7 +3,7 @@
 use Prim.Native.Nat.{ℕ, zero, suc, _+_, _≤_, _<_, min}
 use native.Mathlib.Omega.{arith}
 use mathlib.Core.Path.{_≡_, refl, sym}
-use mathlib.Core.Bool.{Bool, true, false, cond}
+use mathlib.Core.Bool.{Bool, true, false, cond, _&&_}
 use mathlib.Core.List.{List, [], _∷_}
 use lib.Dec.{eqb, ltb, eqb-refl}
 use lib.ListN.{length}
@@ -15,12 +15,12 @@ use Rattle.loom.specs.declared.Place.{Place}
 use Rattle.loom.specs.declared.Place.the-variants.{Begin, Posted, Looking, Ready, Applied, Bound, Answered}
 use Rattle.loom.specs.declared.Shared.{Shared}
 use Rattle.loom.specs.Sides.{other, register}
-use Rattle.loom.specs.Turn.{Rules, turnOf, pickPlace, decided, both, looks, afterPosted, afterLooking}
+use Rattle.loom.specs.Turn.{Rules, turnOf, decided, looks, afterPosted, afterLooking}
 use Rattle.agreement.specs.Machine.{Event, answered, Act, step, restart, restartAll, State, sideOf, withPost, withSaid, turned, steppedFrom, stepped, acted, after}
 use Rattle.agreement.specs.Agreed.{Had}
 use Rattle.agreement.specs.LogLaws.{had-latest, had-still, changed-all}
 use Rattle.agreement.specs.MachineLaws.{stepped-no-loom, place-stepped, place-unstepped, place-unrestarted}
-use Rattle.agreement.specs.Steps.{stepsOf, Unrestarted, unanswered, zeroIf, counted, countAfter}
+use Rattle.agreement.specs.Steps.{stepsOf, Unrestarted, unanswered, counted, countAfter}
 
 -- How far a loom has come.
 abbrev pub rank : Place → ℕ
@@ -52,9 +52,9 @@ answered-at-six (Bound x) high = absurd (omega arith)
 answered-at-six (Answered x) high = (x, refl)
 
 -- The rank of one of two places.
-pub rank-of-pick : (b : Bool) (p q : Place) (n : ℕ) → n ≤ rank p → n ≤ rank q → n ≤ rank (pickPlace b p q)
-rank-of-pick true p q n low high = low
-rank-of-pick false p q n low high = high
+pub rank-of-cond : (b : Bool) (p q : Place) (n : ℕ) → n ≤ rank p → n ≤ rank q → n ≤ rank (cond b p q)
+rank-of-cond true p q n low high = low
+rank-of-cond false p q n low high = high
 
 -- A loom that has looked has come farther.
 pub rank-after-looking : (s : Side) (w : ℕ) → 3 ≤ rank (afterLooking s w)
@@ -68,12 +68,12 @@ pub rank-rises : (R : Rules) (s : Side) (v : ℕ) (op : ℕ → ℕ) (m : Shared
 unfolding turnOf afterPosted
 rank-rises R s v op m Begin = omega arith
 rank-rises R s v op m Posted =
-    rank-of-pick
+    rank-of-cond
     (eqb (m .cell) (R .start))
-    (pickPlace (looks R s) Looking Ready)
+    (cond (looks R s) Looking Ready)
     (Bound (decided R (m .cell)))
     2
-    (rank-of-pick (looks R s) Looking Ready 2 (omega arith) (omega arith))
+    (rank-of-cond (looks R s) Looking Ready 2 (omega arith) (omega arith))
     (omega arith)
 rank-rises R s v op m Looking = rank-after-looking s (register m (other s))
 rank-rises R s v op m Ready = omega arith
@@ -94,11 +94,11 @@ gain-up-to-six (Answered x) = omega arith
 module _ (next : ℕ → ℕ → ℕ) (looms : List Seat) (R : Rules) where
   -- A step raises the rank of a loom of the group that has not answered, and no other act but a restart of it changes its rank.
   pub rank-stepped : (S : State) (j v k : ℕ) (b : Bool) → eqb j k ≡ b →
-      one (both b (both (ltb k (length looms)) (unanswered (S .place k)))) + rank (S .place k) ≤ rank (acted next looms R (step j v) S .place k)
+      one (b && (ltb k (length looms) && unanswered (S .place k))) + rank (S .place k) ≤ rank (acted next looms R (step j v) S .place k)
   rank-stepped S j v k true e = rw (eqb-true j k e) (by-test (ltb k (length looms)) refl)
     where
       by-test : (b : Bool) → ltb k (length looms) ≡ b →
-          one (both b (unanswered (S .place k))) + rank (S .place k) ≤ rank (acted next looms R (step k v) S .place k)
+          one (b && unanswered (S .place k)) + rank (S .place k) ≤ rank (acted next looms R (step k v) S .place k)
       by-test true here =
           rw
           (place-stepped next looms R S k v (ltb-true k (length looms) here))
@@ -112,7 +112,7 @@ module _ (next : ℕ → ℕ → ℕ) (looms : List Seat) (R : Rules) where
   counted-within-rank (step j v) S k c low = omega (arith, rank-stepped S j v k (eqb j k) refl)
   counted-within-rank (restart j) S k c low = by-test (eqb j k) refl
     where
-      by-test : (b : Bool) → eqb j k ≡ b → zeroIf b c ≤ rank (acted next looms R (restart j) S .place k)
+      by-test : (b : Bool) → eqb j k ≡ b → cond b 0 c ≤ rank (acted next looms R (restart j) S .place k)
       by-test true e = omega arith
       by-test false e = rw (place-unrestarted next looms R S j k (λ same. eqb-false j k e (sym same))) low
   counted-within-rank restartAll S k c low = omega arith
@@ -131,7 +131,7 @@ module _ (next : ℕ → ℕ → ℕ) (looms : List Seat) (R : Rules) where
   rank-after (step j v ∷ acts) S k here free =
       omega (arith, rank-after acts (acted next looms R (step j v) S) k here free, gained)
     where
-      by-test : (b : Bool) → one (both b (unanswered (S .place k))) + rank (S .place k) ≤ rank (acted next looms R (step j v) S .place k) →
+      by-test : (b : Bool) → one (b && unanswered (S .place k)) + rank (S .place k) ≤ rank (acted next looms R (step j v) S .place k) →
           min 6 (one b + rank (S .place k)) ≤ rank (acted next looms R (step j v) S .place k)
       by-test true most = omega (arith, gain-up-to-six (S .place k))
       by-test false most = omega arith
@@ -170,7 +170,7 @@ pub spoken-posted : (R : Rules) (s : Side) (q : ℕ) (log : List Event) (k : ℕ
 unfolding afterPosted
 spoken-posted R s q log k = outer (eqb q (R .start)) (looks R s)
   where
-    outer : (b c : Bool) → Spoken log k (pickPlace b (pickPlace c Looking Ready) (Bound (decided R q)))
+    outer : (b c : Bool) → Spoken log k (cond b (cond c Looking Ready) (Bound (decided R q)))
     outer true true = tt
     outer true false = tt
     outer false c = tt

@@ -4,7 +4,7 @@ use Prim.Native.Nat.{ℕ, zero, suc, _≤_, _<_}
 use native.Mathlib.Nat.{le-of-suc-le-suc, not-suc-le-zero}
 use native.Mathlib.Omega.{arith}
 use mathlib.Core.Path.{_≡_, refl, ap, sym, _∙_}
-use mathlib.Core.Bool.{Bool, true, false}
+use mathlib.Core.Bool.{Bool, true, false, cond}
 use mathlib.Core.Logic.{_⊎_, inl, inr}
 use mathlib.Core.List.{List, [], _∷_, _++_}
 use lib.ListN.{length}
@@ -14,7 +14,7 @@ use Rattle.loom.specs.declared.Side.{Side}
 use Rattle.loom.specs.declared.Side.the-variants.{A, B}
 use Rattle.loom.specs.Sides.{sideNumber, sideFrom, other, sameSide}
 use Rattle.loom.specs.SidesLaws.{side-of-number}
-use Rattle.loom.specs.Turn.{Rules, decided, pickSide}
+use Rattle.loom.specs.Turn.{Rules, decided}
 use Rattle.agreement.specs.Machine.{sideOf}
 use Rattle.agreement.specs.Fitted.{Fitted}
 use Rattle.agreement.specs.Orders.{order-of-one, order-of-one-more, reached-by-one-more, loom-of-order, lone}
@@ -85,7 +85,7 @@ module _ {next : ℕ → ℕ → ℕ} {looms : List Seat} {start : ℕ} {R : Rul
   pub decides : (X : Side) (q : ℕ) → InSet next looms start (sideNumber X) q → decided R q ≡ X
   decides X q member = by-side (either X (R .leading)) (R .inLeading q) refl
     where
-      by-side : (X ≡ R .leading) ⊎ (X ≡ other (R .leading)) → (b : Bool) → R .inLeading q ≡ b → pickSide b (R .leading) (other (R .leading)) ≡ X
+      by-side : (X ≡ R .leading) ⊎ (X ≡ other (R .leading)) → (b : Bool) → R .inLeading q ≡ b → cond b (R .leading) (other (R .leading)) ≡ X
       by-side (inl e) true t = sym e
       by-side (inl e) false t =
           let yes′ : R .inLeading q ≡ true = given .renders .the-set q .1 (rw e at member) in

@@ -5,4 +5,5 @@ pub mod Orders
 pub mod Runs
 pub mod Records
 pub mod Readings
+pub mod EntriesLaws
 pub mod Only

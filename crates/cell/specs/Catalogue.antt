@@ -2,12 +2,12 @@
 -- Assumes nothing.
 use Prim.Native.Nat.{ℕ, zero, suc, _+_, _-_, _*_}
 use mathlib.Core.Path.{_≡_}
-use mathlib.Core.Bool.{Bool, true, false}
+use mathlib.Core.Bool.{cond}
 use mathlib.Core.List.{List, [], _∷_, _++_}
 use lib.Dec.{ltb}
 use lib.ListN.{length, drop}
 use Rattle.cell.specs.Limits.{edition}
-use Rattle.cell.specs.Table.{pick, outsideOf}
+use Rattle.cell.specs.Table.{outsideOf}
 
 -- A state of S_n: the winner, A or B, and a row.
 pub data Mark : Type 0 where
@@ -19,13 +19,9 @@ abbrev pub numberOf : ℕ → Mark → ℕ
 numberOf n (wonA r) = r
 numberOf n (wonB r) = n + r
 
-abbrev pub pickMark : Bool → Mark → Mark → Mark
-pickMark true m k = m
-pickMark false m k = k
-
 -- The same read back: the winner and the row of state q.
 abbrev pub markOf : ℕ → ℕ → Mark
-markOf n q = pickMark (ltb q n) (wonA q) (wonB (q - n))
+markOf n q = cond (ltb q n) (wonA q) (wonB (q - n))
 
 -- "Operation 0: from (B, 0) to (A, 0); from (A, r) to (B, 0); from (B, r) with r above 0, no move."
 abbrev pub operationZero : Mark → Mark
@@ -35,8 +31,8 @@ operationZero (wonB (suc r)) = wonB (suc r)
 
 -- "Operation 1: r goes up by one, and from r = n − 1 the cell goes to (B, 0)."
 abbrev pub operationOne : ℕ → Mark → Mark
-operationOne n (wonA r) = pickMark (ltb (suc r) n) (wonA (suc r)) (wonB 0)
-operationOne n (wonB r) = pickMark (ltb (suc r) n) (wonB (suc r)) (wonB 0)
+operationOne n (wonA r) = cond (ltb (suc r) n) (wonA (suc r)) (wonB 0)
+operationOne n (wonB r) = cond (ltb (suc r) n) (wonB (suc r)) (wonB 0)
 
 -- The state after operation 0, or after operation 1, in state q.
 abbrev pub afterZero : ℕ → ℕ → ℕ
@@ -56,11 +52,11 @@ tableOf n = each (afterZero n) (2 * n) ++ each (afterOne n) (2 * n)
 
 -- The entry at a place of that table, as the code finds it.
 unfoldable pub entryAt : ℕ → ℕ → ℕ
-entryAt n i = pick (ltb i (2 * n)) (afterZero n i) (afterOne n (i - 2 * n))
+entryAt n i = cond (ltb i (2 * n)) (afterZero n i) (afterOne n (i - 2 * n))
 
 -- "Catalogue: 41, then 40." 41: no such catalogue cell; n is from 2 to the most looms. 40: lent room too short.
 unfoldable pub catalogueCode : ℕ → ℕ → ℕ
-catalogueCode n room = pick (outsideOf 2 (edition .looms) n) 41 (pick (ltb room (4 * n)) 40 0)
+catalogueCode n room = cond (outsideOf 2 (edition .looms) n) 41 (cond (ltb room (4 * n)) 40 0)
 
 -- What is written under code 0; a refusal, which has another code, writes nothing.
 abbrev pub writtenUnder : ℕ → List ℕ → List ℕ → List ℕ

@@ -3,7 +3,7 @@
 use Prim.Native.Nat.{ℕ, zero, suc, _+_, _-_, _*_, _≤_, _<_}
 use mathlib.Core.Path.{_≡_, refl, sym, ap, ap₂, subst, _∙_}
 use mathlib.Core.Logic.{_⊎_, inl, inr, ⊎-elim}
-use mathlib.Core.Bool.{Bool, true, false}
+use mathlib.Core.Bool.{Bool, true, false, cond}
 use mathlib.Core.List.{List, [], _∷_, _++_}
 use native.Mathlib.Nat.{sub-self, add-zero, eq-or-lt-of-le, le-of-suc-le-suc, not-suc-le-zero, zero-mul, one-mul, add-sub-cancel-left, le-dest, add-suc, suc-add, suc-ne-zero, lt-of-not-le}
 use native.Mathlib.Decide.{decLt}
@@ -14,7 +14,7 @@ use lib.Dec.{ltb}
 use lib.ListN.{length, getD, drop, length-append, List·getD-append}
 use lib.Seq.{getD-append-seam, getD-append-add}
 use Rattle.cell.specs.Limits.{edition}
-use Rattle.cell.specs.Table.{pick, entryOf, outsideOf}
+use Rattle.cell.specs.Table.{entryOf, outsideOf}
 use Rattle.cell.specs.TableLaws.{HasForm, not-outside}
 use Rattle.cell.specs.Catalogue.{Mark, wonA, wonB, numberOf, markOf, operationZero, operationOne, afterZero, afterOne, each, tableOf, entryAt, catalogueCode, writtenUnder, catalogueRoom, Catalogued}
 
@@ -134,7 +134,7 @@ pub table-entry : (n i : ℕ) → i < 4 * n → getD (tableOf n) i 0 ≡ entryAt
 unfolding entryAt
 table-entry n i h = go (decLt i (2 * n))
   where
-    go : Dec (i < 2 * n) → getD (tableOf n) i 0 ≡ pick (ltb i (2 * n)) (afterZero n i) (afterOne n (i - 2 * n))
+    go : Dec (i < 2 * n) → getD (tableOf n) i 0 ≡ cond (ltb i (2 * n)) (afterZero n i) (afterOne n (i - 2 * n))
     go (yes first) = rw (lt-ltb _ _ first) (table-of-zero n i first)
     go (no past) =
         let same : 2 * n + (i - 2 * n) ≡ i = omega arith in
@@ -197,7 +197,7 @@ pub code-says : (n room : ℕ) → catalogueCode n room ≡ 0 → (2 ≤ n) × (
 unfolding catalogueCode
 code-says n room = go (outsideOf 2 (edition .looms) n) (ltb room (4 * n)) refl refl
   where
-    go : (s t : Bool) → outsideOf 2 (edition .looms) n ≡ s → ltb room (4 * n) ≡ t → pick s 41 (pick t 40 0) ≡ 0
+    go : (s t : Bool) → outsideOf 2 (edition .looms) n ≡ s → ltb room (4 * n) ≡ t → cond {A = ℕ} s 41 (cond t 40 0) ≡ 0
         → (2 ≤ n) × (n ≤ edition .looms) × (4 * n ≤ room)
     go true t hs ht code = omega arith
     go false true hs ht code = omega arith

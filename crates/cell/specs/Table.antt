@@ -1,7 +1,7 @@
 -- A cell's table: document 01, "Cell and certificate" and "Codes and their order".
 -- Assumes nothing.
 use Prim.Native.Nat.{ℕ, zero, suc, _+_, _*_}
-use mathlib.Core.Bool.{Bool, true, false, not}
+use mathlib.Core.Bool.{Bool, not, cond, _&&_, _||_}
 use mathlib.Core.List.{List, [], _∷_}
 use lib.Dec.{leb, ltb, eqb}
 use lib.ListN.{length, getD}
@@ -18,49 +18,27 @@ position states o q = o * states + q
 abbrev pub entryOf : List ℕ → ℕ → ℕ → ℕ → ℕ
 entryOf table states o q = getD table (position states o q) 0
 
--- Both tests hold; one of them does.
-abbrev pub both : Bool → Bool → Bool
-both true t = t
-both false t = false
-
-abbrev pub either : Bool → Bool → Bool
-either true t = true
-either false t = t
-
--- The first of two where the test holds, else the second.
-abbrev pub pick : Bool → ℕ → ℕ → ℕ
-pick true a b = a
-pick false a b = b
-
-abbrev pub pickMoved : Bool → Moved → Moved → Moved
-pickMoved true m n = m
-pickMoved false m n = n
-
-abbrev pub pickFormed : Bool → Formed → Formed → Formed
-pickFormed true f g = f
-pickFormed false f g = g
-
 -- The lookup fits: states and the operation are within limits, the state is below states, the table has the entry, and the entry is below
 -- states.
 abbrev pub isFitted : List ℕ → ℕ → ℕ → ℕ → Bool
 isFitted table states o q =
-    both (leb states (edition .states))
-    (both (ltb o (edition .operations))
-    (both (ltb q states) (both (ltb (position states o q) (length table)) (ltb (entryOf table states o q) states))))
+    leb states (edition .states)
+    && (ltb o (edition .operations)
+    && (ltb q states && (ltb (position states o q) (length table) && ltb (entryOf table states o q) states)))
 
 -- "A cell table gives, for each operation and state, the next state." In the code every use of a table goes through this lookup. The
 -- definitions of other files take the entry itself, once they have tested the table.
 unfoldable pub nextOf : List ℕ → ℕ → ℕ → ℕ → Moved
-nextOf table states o q = pickMoved (isFitted table states o q) (To (entryOf table states o q)) Refused
+nextOf table states o q = cond (isFitted table states o q) (To (entryOf table states o q)) Refused
 
 -- The place of the first entry that isn't below states, or the table's length.
 unfoldable pub firstOutside : ℕ → List ℕ → ℕ
 firstOutside states [] = 0
-firstOutside states (e ∷ es) = pick (leb states e) 0 (suc (firstOutside states es))
+firstOutside states (e ∷ es) = cond (leb states e) 0 (suc (firstOutside states es))
 
 -- n is not from low to high.
 abbrev pub outsideOf : ℕ → ℕ → ℕ → Bool
-outsideOf low high n = either (ltb n low) (ltb high n)
+outsideOf low high n = ltb n low || ltb high n
 
 -- A code and its place; code 0 is no refusal.
 abbrev pub formed : ℕ → ℕ → Formed
@@ -70,7 +48,7 @@ formed code place = record { code = code; place = place }
 -- lowest such entry.
 unfoldable pub formOf : List ℕ → ℕ → ℕ → Formed
 formOf table states operations =
-    pickFormed (outsideOf 1 (edition .states) states) (formed 2 0)
-    (pickFormed (outsideOf 1 (edition .operations) operations) (formed 3 0)
-    (pickFormed (not (eqb (length table) (states * operations))) (formed 4 0)
-    (pickFormed (ltb (firstOutside states table) (length table)) (formed 5 (firstOutside states table)) (formed 0 0))))
+    cond (outsideOf 1 (edition .states) states) (formed 2 0)
+    (cond (outsideOf 1 (edition .operations) operations) (formed 3 0)
+    (cond (not (eqb (length table) (states * operations))) (formed 4 0)
+    (cond (ltb (firstOutside states table) (length table)) (formed 5 (firstOutside states table)) (formed 0 0))))

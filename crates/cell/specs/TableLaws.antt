@@ -2,7 +2,7 @@
 -- Assumes nothing.
 use Prim.Native.Nat.{ℕ, zero, suc, _+_, _*_, _^_, _≤_, _<_, zero-le, suc-le-suc}
 use mathlib.Core.Path.{_≡_, refl, sym, ap, subst, _∙_}
-use mathlib.Core.Bool.{Bool, true, false, not}
+use mathlib.Core.Bool.{Bool, true, false, not, cond, _||_}
 use mathlib.Core.List.{List, [], _∷_}
 use native.Mathlib.Nat.{mul-le-mul, le-of-suc-le-suc, le-refl, not-suc-le-zero, le-of-lt, suc-mul, mul-le-mul-right, lt-of-lt-of-le, add-comm, zero-lt-suc, mul-comm, le-of-eq}
 use native.Mathlib.Omega.{arith}
@@ -15,7 +15,7 @@ use Rattle.cell.specs.declared.Formed.{Formed}
 use Rattle.cell.specs.declared.Moved.{Moved}
 use Rattle.cell.specs.declared.Moved.the-variants.{To, Refused}
 use Rattle.cell.specs.Limits.{edition}
-use Rattle.cell.specs.Table.{position, entryOf, either, pick, nextOf, firstOutside, outsideOf, formed, pickFormed, formOf}
+use Rattle.cell.specs.Table.{position, entryOf, nextOf, firstOutside, outsideOf, formed, formOf}
 
 -- The lookup, one law for each way that it ends.
 module _ (table : List ℕ) (states o q : ℕ) where
@@ -73,7 +73,7 @@ module _ (states : ℕ) (table : List ℕ) (i : ℕ) where
 pub not-outside : (low high n : ℕ) → outsideOf low high n ≡ false → (low ≤ n) × (n ≤ high)
 not-outside low high n = go (ltb n low) (ltb high n) refl refl
   where
-    go : (s t : Bool) → ltb n low ≡ s → ltb high n ≡ t → either s t ≡ false → (low ≤ n) × (n ≤ high)
+    go : (s t : Bool) → ltb n low ≡ s → ltb high n ≡ t → s || t ≡ false → (low ≤ n) × (n ≤ high)
     go true t e f none = absurd (subst T none tt)
     go false true e f none = absurd (subst T none tt)
     go false false e f none = (ltb-false n low e, ltb-false high n f)
@@ -121,7 +121,7 @@ unfolding firstOutside
 all-below states [] none i h = absurd (not-suc-le-zero h)
 all-below states (e ∷ es) none i h = go (all-below states es) (leb states e) refl i h none
   where
-    go : (length es ≤ firstOutside states es → (i : ℕ) → i < length es → getD es i 0 < states) → (t : Bool) → leb states e ≡ t → (i : ℕ) → i < suc (length es) → suc (length es) ≤ pick t 0 (suc (firstOutside states es)) → getD (e ∷ es) i 0 < states
+    go : (length es ≤ firstOutside states es → (i : ℕ) → i < length es → getD es i 0 < states) → (t : Bool) → leb states e ≡ t → (i : ℕ) → i < suc (length es) → suc (length es) ≤ cond t 0 (suc (firstOutside states es)) → getD (e ∷ es) i 0 < states
     go rest true t i h none = absurd (not-suc-le-zero none)
     go rest false t zero h none = leb-false states e t
     go rest false t (suc i) h none = rest (le-of-suc-le-suc none) i (le-of-suc-le-suc h)
@@ -144,8 +144,8 @@ form-says table states operations =
   where
     go : (s o w e : Bool) → outsideOf 1 (edition .states) states ≡ s → outsideOf 1 (edition .operations) operations ≡ o
         → eqb (length table) (states * operations) ≡ w → ltb (firstOutside states table) (length table) ≡ e
-        → pickFormed s (formed 2 0)
-        (pickFormed o (formed 3 0) (pickFormed (not w) (formed 4 0) (pickFormed e (formed 5 (firstOutside states table)) (formed 0 0)))) .code ≡ 0
+        → cond s (formed 2 0)
+        (cond o (formed 3 0) (cond (not w) (formed 4 0) (cond e (formed 5 (firstOutside states table)) (formed 0 0)))) .code ≡ 0
         → HasForm table states operations
     go true o w e hs ho hw he code = omega arith
     go false true w e hs ho hw he code = omega arith

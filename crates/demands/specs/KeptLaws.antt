@@ -2,7 +2,7 @@
 -- Assumes nothing.
 use Prim.Native.Nat.{ℕ, zero, suc}
 use mathlib.Core.Path.{refl, _∙_}
-use mathlib.Core.Bool.{Bool, true, false}
+use mathlib.Core.Bool.{Bool, true, false, cond}
 use mathlib.Core.List.{List, [], _∷_}
 use lib.Dec.{eqb}
 use lib.ListN.{getD, set, length-set}
@@ -14,7 +14,7 @@ use Rattle.loom.specs.Looms.{turnedOf}
 use Rattle.group.specs.declared.Group.{Group}
 use Rattle.group.specs.declared.Outcome.{Outcome}
 use Rattle.group.specs.Group.{emptyLoom, loomAt, withLoom, withShared, noLoom, tooMany, restartedAt, restartedBelow}
-use Rattle.group.specs.Step.{isUnfit, hasAnswered, unmoved, taken, pickOutcome, pickStepped, pickRestarted, stepOnOf, settled, ownStep, stepOf, refused, restarted, restartOf, restartAllOf}
+use Rattle.group.specs.Step.{isUnfit, hasAnswered, unmoved, taken, stepOnOf, settled, ownStep, stepOf, refused, restarted, restartOf, restartAllOf}
 use Rattle.demands.specs.Acts.{Act, loomSteps, loomRestarts, allRestart, History, actedOn, historyAfter}
 use Rattle.demands.specs.Kept.{SameLoom, Kept}
 
@@ -70,7 +70,7 @@ unfolding stepOnOf
 same-after-step R v table states operations m l = by-tests (isUnfit table states operations (l .operation) (m .cell)) (hasAnswered (l .place))
   where
     by-tests : (s t : Bool) →
-        SameLoom (pickOutcome s (unmoved 32 m l) (pickOutcome t (unmoved 31 m l) (taken (turnedOf R v (entryOf table states (l .operation)) m l))) .loom) l
+        SameLoom (cond s (unmoved 32 m l) (cond t (unmoved 31 m l) (taken (turnedOf R v (entryOf table states (l .operation)) m l))) .loom) l
     by-tests true t = same-loom l
     by-tests false true = same-loom l
     by-tests false false = record { side = refl; operation = refl }
@@ -79,7 +79,7 @@ kept-settled : (g : Group) (k : ℕ) (r : Outcome) → SameLoom (r .loom) (loomA
 unfolding settled
 kept-settled g k r same = by-test (eqb (r .code) 0)
   where
-    by-test : (b : Bool) → Kept g (pickStepped b (record { code = 0; said = r .said; steps = r .loom .steps; group = withLoom (withShared g (r .shared)) k (r .loom) }) (refused (r .code) g) .group)
+    by-test : (b : Bool) → Kept g (cond b (record { code = 0; said = r .said; steps = r .loom .steps; group = withLoom (withShared g (r .shared)) k (r .loom) }) (refused (r .code) g) .group)
     by-test true = kept-further _ _ _ (kept-with-shared g (r .shared)) (kept-with-loom (withShared g (r .shared)) k (r .loom) same)
     by-test false = kept-itself g
 
@@ -88,7 +88,7 @@ pub kept-by-step : (table : List ℕ) (states operations : ℕ) (g : Group) (k :
 unfolding stepOf
 kept-by-step table states operations g k = by-test (noLoom g k)
   where
-    by-test : (b : Bool) → Kept g (pickStepped b (refused 30 g) (settled g k (ownStep table states operations g k)) .group)
+    by-test : (b : Bool) → Kept g (cond b (refused 30 g) (settled g k (ownStep table states operations g k)) .group)
     by-test true = kept-itself g
     by-test false = kept-settled g k _ (same-after-step _ _ table states operations (g .shared) (loomAt g k))
 
@@ -106,7 +106,7 @@ pub kept-by-restart : (g : Group) (k : ℕ) → Kept g (restartOf g k .group)
 unfolding restartOf
 kept-by-restart g k = by-test (noLoom g k)
   where
-    by-test : (b : Bool) → Kept g (pickRestarted b (restarted 30 g) (restarted 0 (restartedAt g k)) .group)
+    by-test : (b : Bool) → Kept g (cond b (restarted 30 g) (restarted 0 (restartedAt g k)) .group)
     by-test true = kept-itself g
     by-test false = kept-restarted g k
 
@@ -115,7 +115,7 @@ pub kept-by-restart-of-all : (g : Group) → Kept g (restartAllOf g .group)
 unfolding restartAllOf
 kept-by-restart-of-all g = by-test (tooMany g)
   where
-    by-test : (b : Bool) → Kept g (pickRestarted b (restarted 30 g) (restarted 0 (restartedBelow g (g .count))) .group)
+    by-test : (b : Bool) → Kept g (cond b (restarted 30 g) (restarted 0 (restartedBelow g (g .count))) .group)
     by-test true = kept-itself g
     by-test false = kept-restarted-below g (g .count)
 

@@ -4,13 +4,13 @@ use Prim.Native.Nat.{ℕ, _≤_, _<_}
 use native.Mathlib.Omega.{arith}
 use native.Mathlib.Decide.{decLt, ℕ-discrete}
 use mathlib.Core.Path.{_≡_, refl, ap, sym, _∙_}
-use mathlib.Core.Bool.{Bool, true, false, not}
+use mathlib.Core.Bool.{Bool, true, false, not, cond, _||_}
 use mathlib.Core.List.{List}
 use lib.Dec.{eqb}
 use lib.ListN.{length, getD, length-take, List·getD-eq-default}
 use lib.Seq.{getD-take}
 use borrow.Author.Tests.{eqb-true, eqb-false}
-use Rattle.cell.specs.Table.{either, entryOf}
+use Rattle.cell.specs.Table.{entryOf}
 use Rattle.recording.specs.declared.Seat.{Seat}
 use Rattle.recording.specs.declared.Certificate.{Certificate}
 use Rattle.recording.specs.declared.Judged.{Judged}
@@ -26,7 +26,7 @@ use Rattle.loom.specs.declared.Loom.{Loom}
 use Rattle.agreement.specs.Machine.{Filled}
 use Rattle.group.specs.declared.Numbers.{Numbers}
 use Rattle.group.specs.Group.{emptyLoom, numberOf}
-use Rattle.group.specs.Open.{loomOf, slotsOf, freshGroup, unopened, opened, pickOpened, setsFrom, openedBy, openOf}
+use Rattle.group.specs.Open.{loomOf, slotsOf, freshGroup, unopened, opened, setsFrom, openedBy, openOf}
 use Rattle.group.specs.OpenLaws.{slots-length, slot-of-seat}
 use Rattle.demands.specs.Fits.{Seated, WellFormed}
 use Rattle.demands.specs.RendersLaws.{AreSets}
@@ -44,7 +44,7 @@ unfolding openedBy
 opens j c numbers = by-tests (eqb (j .code) 0) (eqb (numbers .a) 0) (eqb (numbers .b) 0) refl refl refl
   where
     by-tests : (s t u : Bool) → eqb (j .code) 0 ≡ s → eqb (numbers .a) 0 ≡ t → eqb (numbers .b) 0 ≡ u →
-        pickOpened (not s) (unopened (j .code)) (pickOpened (either t u) (unopened 10) (opened (freshGroup c (setsFrom j) numbers))) .code ≡ 0 →
+        cond (not s) (unopened (j .code)) (cond (t || u) (unopened 10) (opened (freshGroup c (setsFrom j) numbers))) .code ≡ 0 →
         Opens j c numbers
     by-tests false t u es et eu code = absurd (eqb-false (j .code) 0 es code)
     by-tests true true u es et eu code = absurd (omega arith)

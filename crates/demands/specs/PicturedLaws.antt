@@ -11,7 +11,7 @@ use lib.Dec.{eqb}
 use lib.ListN.{length, getD, take, set}
 use lib.Seq.{getD-set-same, getD-set-other}
 use borrow.Author.Tests.{eqb-true, eqb-false}
-use Rattle.cell.specs.Table.{pick, entryOf}
+use Rattle.cell.specs.Table.{entryOf}
 use Rattle.recording.specs.declared.Seat.{Seat}
 use Rattle.recording.specs.Recording.{sideAt, operationAt, one, sideCount}
 use Rattle.loom.specs.declared.Side.{Side}
@@ -38,7 +38,7 @@ use Rattle.demands.specs.FitsLaws.{turnIn, shared-restarted-below, step-
 use Rattle.demands.specs.Pictured.{rulesBy, numbered, allNumbered, Pictured}
 
 -- A loom of the side is counted in either way.
-one-of-side : (n : ℕ) (s : Side) → n ≤ 1 → pick (sameSide (sideFrom n) s) 1 0 ≡ one (eqb n (sideNumber s))
+one-of-side : (n : ℕ) (s : Side) → n ≤ 1 → one (sameSide (sideFrom n) s) ≡ one (eqb n (sideNumber s))
 one-of-side zero A small = refl
 one-of-side zero B small = refl
 one-of-side (suc zero) A small = refl
@@ -53,8 +53,8 @@ unfolding countOf
 count-of-seats s [] ls room sides within = refl
 count-of-seats s (seat ∷ looms) [] room sides within = absurd (not-suc-le-zero room)
 count-of-seats s (seat ∷ looms) (l ∷ ls) room sides within =
-    let first : pick (sameSide (l .side) s) 1 0 ≡ one (eqb (seat .side) (sideNumber s)) =
-    ap (λ t. pick (sameSide t s) 1 0) (sides 0 (zero-lt-suc (length looms))) ∙ one-of-side (seat .side) s (within 0) in
+    let first : one (sameSide (l .side) s) ≡ one (eqb (seat .side) (sideNumber s)) =
+    ap (λ t. one (sameSide t s)) (sides 0 (zero-lt-suc (length looms))) ∙ one-of-side (seat .side) s (within 0) in
     let rest = count-of-seats s looms ls (le-of-suc-le-suc room) (λ k here. sides (suc k) (suc-le-suc here)) (λ k. within (suc k)) in
     rw (first, rest) refl
 

@@ -2,7 +2,7 @@
 -- Assumes nothing.
 use Prim.Native.Nat.{ℕ}
 use mathlib.Core.Path.{_≡_, refl}
-use mathlib.Core.Bool.{Bool, true, false}
+use mathlib.Core.Bool.{Bool, true, false, cond}
 use mathlib.Core.Logic.{_↔_}
 use mathlib.Core.List.{List}
 use lib.Dec.{eqb}
@@ -13,7 +13,6 @@ use Rattle.recording.specs.Recording.{InSet, Recording}
 use Rattle.loom.specs.declared.Side.{Side}
 use Rattle.loom.specs.declared.Side.the-variants.{A, B}
 use Rattle.loom.specs.Sides.{sideNumber}
-use Rattle.loom.specs.Turn.{pickSide}
 use Rattle.agreement.specs.Teams.{other-other}
 use Rattle.agreement.specs.Fitted.{Renders}
 use Rattle.group.specs.declared.Sets.{Sets}
@@ -33,7 +32,7 @@ module _ (next : ℕ → ℕ → ℕ) (looms : List Seat) (start : ℕ) (sets : 
   start-not-yielding : InSet next looms start (sideNumber (yieldingOf start sets)) start → ⊥
   start-not-yielding = by-test (hasOf (sets .b) start) refl
     where
-      by-test : (b : Bool) → hasOf (sets .b) start ≡ b → InSet next looms start (sideNumber (pickSide b A B)) start → ⊥
+      by-test : (b : Bool) → hasOf (sets .b) start ≡ b → InSet next looms start (sideNumber (cond b A B)) start → ⊥
       by-test true inB ofA = recording .apart start ofA (are B start .0 (eqb-true _ 1 inB))
       by-test false notB ofB = eqb-false _ 1 notB (are B start .1 ofB)
 

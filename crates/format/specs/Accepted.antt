@@ -4,7 +4,7 @@ use Prim.Native.Nat.{ℕ, zero, suc, _+_, _*_, _≤_, _<_, _^_}
 use native.Mathlib.Nat.{mul-le-mul}
 use native.Mathlib.Omega.{arith}
 use mathlib.Core.Path.{_≡_, refl, sym, ap, _∙_}
-use mathlib.Core.Bool.{Bool, true, false}
+use mathlib.Core.Bool.{Bool, true, false, _||_}
 use mathlib.Core.List.{List}
 use mathlib.Core.Logic.{_⊎_, inl, inr, ⊎-elim}
 use lib.Dec.{leb, ltb, eqb}
@@ -19,7 +19,7 @@ use Rattle.xdr.specs.Opaque.{opaqueAt}
 use Rattle.format.specs.declared.Plan.{Plan}
 use Rattle.format.specs.declared.Items.the-variants.{Entries, Looms, Acts}
 use Rattle.format.specs.Layout.{planOf}
-use Rattle.format.specs.Format.{either, exactly, namesAct, itemAt, runOf, seatsAt, sidesAt, headOf, certificateOf, numberAt, labelAt, piecesOf, scheduleOf, judgedBy, verdictOf}
+use Rattle.format.specs.Format.{exactly, namesAct, itemAt, runOf, seatsAt, sidesAt, headOf, certificateOf, numberAt, labelAt, piecesOf, scheduleOf, judgedBy, verdictOf}
 
 -- Each field of a file passes, in file order.
 pub record Passes (L : Limits) (s : List ℕ) (P : Plan) : Type 0 where
@@ -88,7 +88,7 @@ limits : (low end code : ℕ) (s : List ℕ) (p : ℕ) → Passed (fieldAt (with
 limits low end code s p (v, h) = within-taken low end (wordAt s p) (field-taken (within low end) code s p v h .good)
 
 -- one of two tests that hold together by either
-either-cases : (a b : Bool) → either a b ≡ true → (a ≡ true) ⊎ (b ≡ true)
+either-cases : (a b : Bool) → a || b ≡ true → (a ≡ true) ⊎ (b ≡ true)
 either-cases true b h = inl refl
 either-cases false b h = inr h
 
@@ -97,7 +97,7 @@ pub act-below : (looms v : ℕ) → namesAct looms v ≡ true → v < 33 + looms
 unfolding namesAct
 act-below looms v h =
     ⊎-elim (λ (a : ltb v looms ≡ true). omega (arith, ltb-true v looms a))
-    (λ (b : either (within 16 (16 + looms) v) (eqb v 32) ≡ true).
+    (λ (b : within 16 (16 + looms) v || eqb v 32 ≡ true).
     ⊎-elim (λ (c : within 16 (16 + looms) v ≡ true). omega (arith, within-taken 16 (16 + looms) v c .1))
     (λ (d : eqb v 32 ≡ true). omega (arith, eqb-true v 32 d)) (either-cases _ _ b))
     (either-cases (ltb v looms) _ h)

@@ -2,7 +2,7 @@
 -- Limits are a parameter, so that one edition's files can be compared with another's.
 -- Assumes nothing.
 use Prim.Native.Nat.{ℕ, zero, suc, _+_, _*_, _^_}
-use mathlib.Core.Bool.{Bool, true, false}
+use mathlib.Core.Bool.{Bool, true, _&&_, _||_}
 use mathlib.Core.List.{List, [], _∷_}
 use lib.Dec.{leb, ltb, eqb}
 use Rattle.cell.specs.Limits.{Limits}
@@ -10,17 +10,12 @@ use Rattle.recording.specs.Recording.{sideCount}
 use Rattle.recording.specs.declared.Seat.{Seat}
 use Rattle.xdr.specs.declared.Field.{Field}
 use Rattle.xdr.specs.declared.Field.the-variants.{Is, Not}
-use Rattle.xdr.specs.Field.{both, judged, wordAt, within, fieldAt, andThen, run, endAt}
+use Rattle.xdr.specs.Field.{judged, wordAt, within, fieldAt, andThen, run, endAt}
 use Rattle.xdr.specs.Opaque.{opaqueAt}
 use Rattle.format.specs.declared.Plan.{Plan}
 use Rattle.format.specs.Layout.{planOf}
 use Rattle.format.specs.declared.Items.{Items}
 use Rattle.format.specs.declared.Items.the-variants.{Entries, Looms, Acts}
-
--- One of two tests holds.
-abbrev pub either : Bool → Bool → Bool
-either true t = true
-either false t = t
 
 -- The value n and no other.
 abbrev pub exactly : ℕ → ℕ → Bool
@@ -28,7 +23,7 @@ exactly n = within n (n + 1)
 
 -- "Entry k is a step of loom k, 16 + k a restart of loom k, 32 a restart of all": an entry that names an act of a group of so many looms.
 unfoldable pub namesAct : ℕ → ℕ → Bool
-namesAct looms v = either (ltb v looms) (either (within 16 (16 + looms) v) (eqb v 32))
+namesAct looms v = ltb v looms || (within 16 (16 + looms) v || eqb v 32)
 
 -- One item of a counted array.
 --   5, an entry not below states
@@ -59,7 +54,7 @@ seatsAt s (suc n) p = seatAt s p ∷ seatsAt s n (p + 8)
 
 -- "9, a side without a loom", "after the last loom", placed at the loom count p.
 unfoldable pub sidesAt : List Seat → ℕ → Field
-sidesAt seats p = judged true (both (ltb 0 (sideCount 0 seats)) (ltb 0 (sideCount 1 seats))) p 9 p
+sidesAt seats p = judged true (ltb 0 (sideCount 0 seats) && ltb 0 (sideCount 1 seats)) p 9 p
 
 -- 2 and 3, states and operations not within limits; 4, the table's length isn't states × operations; then its entries.
 unfoldable pub headOf : Limits → List ℕ → Field

@@ -5,7 +5,7 @@ use native.Mathlib.Decide.{ℕ-discrete}
 use native.Mathlib.Nat.{not-suc-le-zero}
 use native.Mathlib.Omega.{arith}
 use mathlib.Core.Path.{_≡_, refl, ap, _∙_}
-use mathlib.Core.Bool.{Bool, true, false}
+use mathlib.Core.Bool.{Bool, true, false, cond}
 use mathlib.Core.List.{List, [], _∷_}
 use lib.Dec.{eqb}
 use lib.ListN.{length, set, getD, length-set}
@@ -19,7 +19,7 @@ use Rattle.group.specs.declared.Group.{Group}
 use Rattle.group.specs.declared.Outcome.{Outcome}
 use Rattle.group.specs.declared.Stepped.{Stepped}
 use Rattle.group.specs.Group.{emptyLoom, loomAt, numberOf, leadOf, groupRules, withLoom, withShared, noLoom, restartedBelow}
-use Rattle.group.specs.Step.{pickOutcome, pickStepped, isUnfit, hasAnswered, stepOnOf, refused, settled, ownStep, stepOf}
+use Rattle.group.specs.Step.{isUnfit, hasAnswered, stepOnOf, refused, settled, ownStep, stepOf}
 
 -- A step goes by the group's rules and numbers, its memory, that loom and the table, and by nothing else: groups alike in these step
 -- alike.
@@ -49,7 +49,7 @@ step-within R v table states operations m l h =
     either (isUnfit table states operations (l .operation) (m .cell)) _ _ h
     (either (hasAnswered (l .place)) _ _ h (counted-within (l .steps)))
   where
-    either : (t : Bool) (r s : Outcome) → r .loom .steps ≤ mostSteps → s .loom .steps ≤ mostSteps → pickOutcome t r s .loom .steps ≤ mostSteps
+    either : (t : Bool) (r s : Outcome) → r .loom .steps ≤ mostSteps → s .loom .steps ≤ mostSteps → cond t r s .loom .steps ≤ mostSteps
     either true r s p q = p
     either false r s p q = q
 
@@ -63,7 +63,7 @@ module _ (table : List ℕ) (states operations : ℕ) (g : Group) (k : ℕ) wher
   unfolding own stepOf settled
   after-step P still moved = either (noLoom g k) _ _ still (either (eqb (own .code) 0) _ _ moved still)
     where
-      either : (t : Bool) (r s : Stepped) → P (r .group) → P (s .group) → P (pickStepped t r s .group)
+      either : (t : Bool) (r s : Stepped) → P (r .group) → P (s .group) → P (cond t r s .group)
       either true r s p q = p
       either false r s p q = q
 

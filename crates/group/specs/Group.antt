@@ -1,13 +1,13 @@
 -- A group as a value: its rules, its numbers and its looms. Document 01, "One loom's steps" and "Codes and their order".
 -- Assumes nothing.
 use Prim.Native.Nat.{ℕ, zero, suc, _+_}
-use mathlib.Core.Bool.{Bool, true, false}
+use mathlib.Core.Bool.{Bool, cond, _||_}
 use mathlib.Core.List.{List, [], _∷_}
 use lib.Dec.{eqb, leb, ltb}
 use lib.ListN.{take, set, getD}
 use Rattle.sets.specs.Sets.{hasOf}
 use Rattle.cell.specs.Limits.{edition}
-use Rattle.cell.specs.Table.{either, pick}
+use Rattle.recording.specs.Recording.{one}
 use Rattle.loom.specs.declared.Side.{Side}
 use Rattle.loom.specs.declared.Side.the-variants.{A, B}
 use Rattle.loom.specs.declared.Place.the-variants.{Begin}
@@ -15,7 +15,7 @@ use Rattle.loom.specs.declared.Loom.{Loom}
 use Rattle.loom.specs.declared.Lead.{Lead}
 use Rattle.loom.specs.declared.Shared.{Shared}
 use Rattle.loom.specs.Sides.{other, sameSide}
-use Rattle.loom.specs.Turn.{Rules, pickSide}
+use Rattle.loom.specs.Turn.{Rules}
 use Rattle.loom.specs.Looms.{rulesOf, restartedOf}
 use Rattle.group.specs.declared.Sets.{Sets}
 use Rattle.group.specs.declared.Numbers.{Numbers}
@@ -42,11 +42,11 @@ numberOf numbers B = numbers .b
 -- How many looms of a list are of the side s.
 unfoldable pub countOf : Side → List Loom → ℕ
 countOf s [] = 0
-countOf s (l ∷ ls) = pick (sameSide (l .side) s) 1 0 + countOf s ls
+countOf s (l ∷ ls) = one (sameSide (l .side) s) + countOf s ls
 
 -- "The yielding side is B, except that it is A when the start is in the set of B."
 abbrev pub yieldingOf : ℕ → Sets → Side
-yieldingOf start sets = pickSide (hasOf (sets .b) start) A B
+yieldingOf start sets = cond (hasOf (sets .b) start) A B
 
 -- "The other side is the leading side."
 abbrev pub leadingOf : ℕ → Sets → Side
@@ -93,7 +93,7 @@ tooMany g = ltb (edition .looms) (g .count)
 
 -- "30: no such loom, or a group of more than 8."
 abbrev pub noLoom : Group → ℕ → Bool
-noLoom g k = either (tooMany g) (leb (g .count) k)
+noLoom g k = tooMany g || leb (g .count) k
 
 -- "A restart of a loom": of loom k, with the rest of the group as it was.
 abbrev pub restartedAt : Group → ℕ → Group

@@ -5,14 +5,14 @@ use native.Mathlib.Decide.{decLe}
 use native.Mathlib.Omega.{arith}
 use native.Mathlib.Numerals.{add-one}
 use mathlib.Core.Path.{_≡_, refl, sym, ap, subst, _∙_}
-use mathlib.Core.Bool.{Bool, true, false}
+use mathlib.Core.Bool.{Bool, true, false, _||_}
 use mathlib.Core.List.{List, [], _∷_}
 use lib.Dec.{T, eqb, ltb, leb}
 use lib.ListN.{length, take, drop, getD, length-take, drop-of-length-le}
 use lib.Seq.{drop-cons, getD-take, take-all}
 use borrow.Author.Tests.{ltb-false, leb-false}
 use Rattle.cell.specs.Limits.{edition}
-use Rattle.cell.specs.Table.{pick, either}
+use Rattle.recording.specs.Recording.{one}
 use Rattle.loom.specs.declared.Side.{Side}
 use Rattle.loom.specs.declared.Loom.{Loom}
 use Rattle.loom.specs.declared.Lead.{Lead}
@@ -22,7 +22,7 @@ use Rattle.group.specs.Group.{emptyLoom, setOf, countOf, yieldingOf, lea
 
 -- Counting from loom i on is loom i and counting from the next on.
 pub count-from : (s : Side) (looms : List Loom) (n i : ℕ) → i < n → n ≤ length looms →
-    countOf s (drop i (take n looms)) ≡ pick (sameSide (getD looms i emptyLoom .side) s) 1 0 + countOf s (drop (i + 1) (take n looms))
+    countOf s (drop i (take n looms)) ≡ one (sameSide (getD looms i emptyLoom .side) s) + countOf s (drop (i + 1) (take n looms))
 unfolding countOf
 count-from s looms n i below within =
     let short : i < length (take n looms) = simp length-take (omega arith) in
@@ -34,11 +34,6 @@ unfolding countOf
 count-past s looms n i past =
     let all : length (take n looms) ≤ i = simp length-take (omega arith) in
     rw (drop-of-length-le (take n looms) all)
-
--- One loom counts once at most.
-pub one-at-most : (t : Bool) → pick t 1 0 ≤ 1
-one-at-most true = omega arith
-one-at-most false = omega arith
 
 -- What the looms go by, from its parts: y is the yielding side, s the leading side, w its set and n the count of the yielding side.
 pub lead-of-parts : (g : Group) (y s : Side) (w n : ℕ) →
@@ -64,7 +59,7 @@ take-within n m xs short =
 pub has-loom : (g : Group) (k : ℕ) → noLoom g k ≡ false → (k < g .count) × (g .count ≤ edition .looms)
 has-loom g k = go (ltb (edition .looms) (g .count)) (leb (g .count) k) refl refl
   where
-    go : (s t : Bool) → ltb (edition .looms) (g .count) ≡ s → leb (g .count) k ≡ t → either s t ≡ false →
+    go : (s t : Bool) → ltb (edition .looms) (g .count) ≡ s → leb (g .count) k ≡ t → s || t ≡ false →
         (k < g .count) × (g .count ≤ edition .looms)
     go true t e f none = absurd (subst T none tt)
     go false true e f none = absurd (subst T none tt)

@@ -1,12 +1,11 @@
 -- Opening a group: document 01, "One loom's steps" and "Codes and their order".
 -- Assumes nothing.
 use Prim.Native.Nat.{ℕ, zero, suc, _<_, _≤_}
-use mathlib.Core.Bool.{Bool, true, false, not}
+use mathlib.Core.Bool.{Bool, not, cond, _||_}
 use mathlib.Core.List.{List, [], _∷_}
 use lib.Dec.{eqb}
 use lib.ListN.{getD, replicate}
 use Rattle.cell.specs.Limits.{edition}
-use Rattle.cell.specs.Table.{either}
 use Rattle.recording.specs.declared.Seat.{Seat}
 use Rattle.recording.specs.declared.Certificate.{Certificate}
 use Rattle.recording.specs.declared.Judged.{Judged}
@@ -58,10 +57,6 @@ noGroup = record {
   looms = replicate (edition .looms) emptyLoom;
 }
 
-abbrev pub pickOpened : Bool → Opened → Opened → Opened
-pickOpened true r s = r
-pickOpened false r s = s
-
 -- A refused opening: its code, and no group.
 abbrev pub unopened : ℕ → Opened
 unopened code = record { code = code; group = noGroup }
@@ -76,13 +71,13 @@ setsFrom j = record { a = j .a; b = j .b }
 
 -- "10: a piece number of 0."
 abbrev pub lacksNumber : Numbers → Bool
-lacksNumber numbers = either (eqb (numbers .a) 0) (eqb (numbers .b) 0)
+lacksNumber numbers = eqb (numbers .a) 0 || eqb (numbers .b) 0
 
 -- What an opening comes to, once the check has judged.
 unfoldable pub openedBy : Judged → Certificate → Numbers → Opened
 openedBy j c numbers =
-    pickOpened (not (eqb (j .code) 0)) (unopened (j .code))
-    (pickOpened (lacksNumber numbers) (unopened 10) (opened (freshGroup c (setsFrom j) numbers)))
+    cond (not (eqb (j .code) 0)) (unopened (j .code))
+    (cond (lacksNumber numbers) (unopened 10) (opened (freshGroup c (setsFrom j) numbers)))
 
 -- "Opening, which like running gives no place: the check, then 10." `room` is the area's length.
 abbrev pub openOf : List ℕ → ℕ → ℕ → Certificate → Numbers → ℕ → Opened

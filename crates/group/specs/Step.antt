@@ -1,14 +1,14 @@
 -- A step, a restart of one and a restart of all: document 01, "One loom's steps" and "Codes and their order".
 -- Assumes nothing.
 use Prim.Native.Nat.{ℕ, _*_}
-use mathlib.Core.Bool.{Bool, true, false, not}
+use mathlib.Core.Bool.{Bool, true, false, not, cond, _||_}
 use mathlib.Core.List.{List}
 use lib.Dec.{eqb, leb}
 use lib.ListN.{length}
 use Rattle.cell.specs.declared.Moved.{Moved}
 use Rattle.cell.specs.declared.Moved.the-variants.{To, Refused}
 use Rattle.cell.specs.Limits.{edition}
-use Rattle.cell.specs.Table.{entryOf, either, outsideOf, pickMoved}
+use Rattle.cell.specs.Table.{entryOf, outsideOf}
 use Rattle.loom.specs.declared.Place.{Place}
 use Rattle.loom.specs.declared.Place.the-variants.{Begin, Posted, Looking, Ready, Applied, Bound, Answered}
 use Rattle.loom.specs.declared.Loom.{Loom}
@@ -25,33 +25,20 @@ use Rattle.group.specs.declared.Stepped.{Stepped}
 use Rattle.group.specs.declared.Restarted.{Restarted}
 use Rattle.group.specs.Group.{loomAt, numberOf, groupRules, withLoom, withShared, tooMany, noLoom, restartedAt, restartedBelow}
 
--- The first of two where the test holds, else the second.
-abbrev pub pickOutcome : Bool → Outcome → Outcome → Outcome
-pickOutcome true r s = r
-pickOutcome false r s = s
-
-abbrev pub pickStepped : Bool → Stepped → Stepped → Stepped
-pickStepped true r s = r
-pickStepped false r s = s
-
-abbrev pub pickRestarted : Bool → Restarted → Restarted → Restarted
-pickRestarted true r s = r
-pickRestarted false r s = s
-
 -- "32, given exactly if states or operations are outside limits, the table's length is wrong, the cell's state isn't below states, the
 -- loom's operation isn't fitted, or the table's entry for them isn't below states." o is the loom's operation, q the cell's state.
 unfoldable pub isUnfit : List ℕ → ℕ → ℕ → ℕ → ℕ → Bool
 isUnfit table states operations o q =
-    either (outsideOf 1 (edition .states) states)
-    (either (outsideOf 1 (edition .operations) operations)
-    (either (not (eqb (length table) (states * operations)))
-    (either (leb states q)
-    (either (leb operations o)
-    (leb states (entryOf table states o q))))))
+    outsideOf 1 (edition .states) states
+    || (outsideOf 1 (edition .operations) operations
+    || (not (eqb (length table) (states * operations))
+    || (leb states q
+    || (leb operations o
+    || leb states (entryOf table states o q)))))
 
 -- The state after operation o in state q, where group and table fit.
 abbrev pub fittedOf : List ℕ → ℕ → ℕ → ℕ → ℕ → Moved
-fittedOf table states operations o q = pickMoved (isUnfit table states operations o q) Refused (To (entryOf table states o q))
+fittedOf table states operations o q = cond (isUnfit table states operations o q) Refused (To (entryOf table states o q))
 
 -- "31: that loom has answered."
 abbrev pub hasAnswered : Place → Bool
@@ -80,8 +67,8 @@ taken t = record { code = 0; said = t .said; shared = t .shared; loom = t .loom 
 -- A step of the loom l on the memory m: 32, then 31, then the table of places. v is the number that it posts.
 unfoldable pub stepOnOf : Rules → ℕ → List ℕ → ℕ → ℕ → Shared → Loom → Outcome
 stepOnOf R v table states operations m l =
-    pickOutcome (isUnfit table states operations (l .operation) (m .cell)) (unmoved 32 m l)
-    (pickOutcome (hasAnswered (l .place)) (unmoved 31 m l)
+    cond (isUnfit table states operations (l .operation) (m .cell)) (unmoved 32 m l)
+    (cond (hasAnswered (l .place)) (unmoved 31 m l)
     (taken (turnedOf R v (entryOf table states (l .operation)) m l)))
 
 -- "A refused step [...] returns what it was given": the group; it says nothing, and gives no count.
@@ -91,7 +78,7 @@ refused code g = record { code = code; said = Nothing; steps = 0; group = g }
 -- What the step of loom k comes to in its group: the memory and the loom take their places there.
 unfoldable pub settled : Group → ℕ → Outcome → Stepped
 settled g k r =
-    pickStepped (eqb (r .code) 0)
+    cond (eqb (r .code) 0)
     (record { code = 0; said = r .said; steps = r .loom .steps; group = withLoom (withShared g (r .shared)) k (r .loom) })
     (refused (r .code) g)
 
@@ -102,7 +89,7 @@ ownStep table states operations g k =
 
 -- "Step: 30; then 32 [...]; then 31."
 unfoldable pub stepOf : List ℕ → ℕ → ℕ → Group → ℕ → Stepped
-stepOf table states operations g k = pickStepped (noLoom g k) (refused 30 g) (settled g k (ownStep table states operations g k))
+stepOf table states operations g k = cond (noLoom g k) (refused 30 g) (settled g k (ownStep table states operations g k))
 
 -- A restart's code and the group it leaves.
 abbrev pub restarted : ℕ → Group → Restarted
@@ -110,8 +97,8 @@ restarted code g = record { code = code; group = g }
 
 -- "Restart of one: 30." "Neither touches the shared memory of a group."
 unfoldable pub restartOf : Group → ℕ → Restarted
-restartOf g k = pickRestarted (noLoom g k) (restarted 30 g) (restarted 0 (restartedAt g k))
+restartOf g k = cond (noLoom g k) (restarted 30 g) (restarted 0 (restartedAt g k))
 
 -- "Restart of all: 30 only for a group of more than 8."
 unfoldable pub restartAllOf : Group → Restarted
-restartAllOf g = pickRestarted (tooMany g) (restarted 30 g) (restarted 0 (restartedBelow g (g .count)))
+restartAllOf g = cond (tooMany g) (restarted 30 g) (restarted 0 (restartedBelow g (g .count)))

@@ -4,7 +4,7 @@ use Prim.Native.Nat.{ℕ, zero, suc, _+_, _*_, _≤_, _<_}
 use native.Mathlib.Omega.{arith}
 use native.Mathlib.Nat.{suc-mul, mul-comm, mul-le-mul, le-refl, lt-of-lt-of-le}
 use mathlib.Core.Path.{_≡_, refl, sym, ap, subst, _∙_}
-use mathlib.Core.Bool.{Bool, true, false}
+use mathlib.Core.Bool.{Bool, true, false, cond}
 use mathlib.Core.List.{List}
 use lib.Dec.{eqb, leb}
 use lib.ListN.{length}
@@ -12,7 +12,7 @@ use borrow.Author.Tests.{lt-ltb, le-ltb, le-leb, lt-leb, leb-true, leb-false, eq
 use Rattle.cell.specs.declared.Moved.{Moved}
 use Rattle.cell.specs.declared.Moved.the-variants.{To, Refused}
 use Rattle.cell.specs.Limits.{edition}
-use Rattle.cell.specs.Table.{position, entryOf, nextOf, pickMoved}
+use Rattle.cell.specs.Table.{position, entryOf, nextOf}
 use Rattle.cell.specs.TableLaws.{refused-entry, moved-to}
 use Rattle.loom.specs.declared.Loom.{Loom}
 use Rattle.loom.specs.declared.Lead.{Lead}
@@ -27,7 +27,7 @@ use Rattle.group.specs.declared.Outcome.{Outcome}
 use Rattle.group.specs.declared.Stepped.{Stepped}
 use Rattle.group.specs.declared.Restarted.{Restarted}
 use Rattle.group.specs.Group.{loomAt, numberOf, leadOf, groupRules, withLoom, withShared, noLoom, restartedAt, restartedBelow}
-use Rattle.group.specs.Step.{pickOutcome, isUnfit, fittedOf, hasAnswered, permitOf, unmoved, taken, stepOnOf, refused, settled, ownStep, stepOf, restarted, restartOf, restartAllOf}
+use Rattle.group.specs.Step.{isUnfit, fittedOf, hasAnswered, permitOf, unmoved, taken, stepOnOf, refused, settled, ownStep, stepOf, restarted, restartOf, restartAllOf}
 
 -- Whether group and table fit, one law for each way that it ends.
 module _ (table : List ℕ) (states operations o q : ℕ) where
@@ -118,15 +118,15 @@ module _ (table : List ℕ) (states operations o q : ℕ) where
 
 -- A step that is denied: t says that group and table don't fit, u that the loom has answered.
 denied-first : (t u : Bool) (e code : ℕ) (m : Shared) (l : Loom) (x : Outcome) →
-    Denied code ≡ permitOf (pickMoved t Refused (To e)) u →
-    unmoved code m l ≡ pickOutcome t (unmoved 32 m l) (pickOutcome u (unmoved 31 m l) x)
+    Denied code ≡ permitOf (cond t Refused (To e)) u →
+    unmoved code m l ≡ cond t (unmoved 32 m l) (cond u (unmoved 31 m l) x)
 denied-first true u e code m l x h = let it : code ≡ 32 = cc in ap (λ n. unmoved n m l) it
 denied-first false true e code m l x h = let it : code ≡ 31 = cc in ap (λ n. unmoved n m l) it
 denied-first false false e code m l x h = let never : _≡_ {A = ℕ} 0 1 = cc in absurd (omega arith)
 
 -- A step that is granted, at the state s.
 granted-last : (t u : Bool) (e s : ℕ) (x y : Outcome) (f : ℕ → Outcome) →
-    Granted s ≡ permitOf (pickMoved t Refused (To e)) u → f s ≡ pickOutcome t x (pickOutcome u y (f e))
+    Granted s ≡ permitOf (cond t Refused (To e)) u → f s ≡ cond t x (cond u y (f e))
 granted-last true u e s x y f h = let never : _≡_ {A = ℕ} 0 1 = cc in absurd (omega arith)
 granted-last false true e s x y f h = let never : _≡_ {A = ℕ} 0 1 = cc in absurd (omega arith)
 granted-last false false e s x y f h = let it : s ≡ e = cc in ap f it
@@ -147,8 +147,8 @@ module _ (R : Rules) (v : ℕ) (table : List ℕ) (states operations : ℕ) (m :
       granted-last (isUnfit table states operations (l .operation) (m .cell)) (hasAnswered (l .place))
       (entryOf table states (l .operation) (m .cell)) s (unmoved 32 m l) (unmoved 31 m l) (λ n. taken (turnedOf R v (λ _. n) m l)) h
       ∙ ap
-      (λ x. pickOutcome (isUnfit table states operations (l .operation) (m .cell)) (unmoved 32 m l)
-      (pickOutcome (hasAnswered (l .place)) (unmoved 31 m l) (taken x)))
+      (λ x. cond (isUnfit table states operations (l .operation) (m .cell)) (unmoved 32 m l)
+      (cond (hasAnswered (l .place)) (unmoved 31 m l) (taken x)))
       (sym (turned-of-next R v (entryOf table states (l .operation)) m l))
 
 -- A group's step, restart of one and restart of all, one law for each way that they end.

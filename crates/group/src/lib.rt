@@ -1,12 +1,10 @@
 // A group of looms over one cell: opened, stepped and restarted.
 ghost use mathlib.Core.Path.{_≡_};
-ghost use mathlib.Core.Bool.{true};
 ghost use Prim.Native.Nat.{ℕ, _<_, _≤_, min};
 ghost use lib.ListN.{length, getD, take};
 ghost use Rattle.cell.specs.Limits.{edition};
-ghost use Rattle.cell.specs.Table.{pick};
 ghost use Rattle.loom.specs.Sides.{sameSide};
-ghost use Rattle.recording.specs.Recording.{emptySeat};
+ghost use Rattle.recording.specs.Recording.{one, emptySeat};
 ghost use Rattle.recording.specs.Check.{areaOf};
 ghost use Rattle.loom.specs.Looms.{rulesOf};
 ghost use Rattle.group.specs.Open.{pieces, loomOf, slotsOf, freshGroup, unopened, openedBy, openOf, Held};
@@ -242,7 +240,7 @@ fn yielding(start: u8, sets: Sets) -> Side
 
 // 1 where a loom's side is the side asked for, else 0.
 fn one_of(own: Side, side: Side) -> usize
-    ensures { λ r. ⌜ r ≡ pick (sameSide own side) 1 0 ⌝ }
+    ensures { λ r. ⌜ r ≡ one (sameSide own side) ⌝ }
 {
     if own.same(side) { 1 } else { 0 }
 }

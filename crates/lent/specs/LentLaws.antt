@@ -2,7 +2,7 @@
 -- Assumes nothing.
 use Prim.Native.Nat.{ℕ}
 use mathlib.Core.Path.{_≡_, refl}
-use mathlib.Core.Bool.{Bool, true, false}
+use mathlib.Core.Bool.{Bool, true, false, cond}
 use mathlib.Core.List.{List}
 use Rattle.loom.specs.declared.Loom.{Loom}
 use Rattle.loom.specs.declared.Shared.{Shared}
@@ -10,13 +10,13 @@ use Rattle.loom.specs.declared.Turned.{Turned}
 use Rattle.loom.specs.Turn.{Rules}
 use Rattle.cell.specs.Table.{entryOf}
 use Rattle.loom.specs.Looms.{turnedOf}
-use Rattle.group.specs.Step.{isUnfit, hasAnswered, unmoved, taken, pickOutcome, stepOnOf}
+use Rattle.group.specs.Step.{isUnfit, hasAnswered, unmoved, taken, stepOnOf}
 use Rattle.lent.specs.Lent.{left, together, returnedOf, leftOf}
 
 -- Of an outcome chosen among two refusals and a turn: a code other than 0 is a refusal's.
 refused-is-unmoved : (unfit answered : Bool) (m : Shared) (l : Loom) (t : Turned) →
-    (pickOutcome unfit (unmoved 32 m l) (pickOutcome answered (unmoved 31 m l) (taken t)) .code ≡ 0 → ⊥) →
-    left (pickOutcome unfit (unmoved 32 m l) (pickOutcome answered (unmoved 31 m l) (taken t))) ≡ m
+    (cond unfit (unmoved 32 m l) (cond answered (unmoved 31 m l) (taken t)) .code ≡ 0 → ⊥) →
+    left (cond unfit (unmoved 32 m l) (cond answered (unmoved 31 m l) (taken t))) ≡ m
 refused-is-unmoved true answered m l t h = refl
 refused-is-unmoved false true m l t h = refl
 refused-is-unmoved false false m l t h = absurd (h refl)

@@ -1,26 +1,26 @@
 -- The document's numbers for what is an enum here: sides and places are in Sides; this is the way back, and what a step says.
 -- Assumes nothing.
 use Prim.Native.Nat.{ℕ}
+use mathlib.Core.Bool.{cond}
 use lib.Dec.{eqb}
 use Rattle.loom.specs.declared.Side.the-variants.{A, B}
 use Rattle.loom.specs.declared.Place.{Place}
 use Rattle.loom.specs.declared.Place.the-variants.{Begin, Posted, Looking, Ready, Applied, Bound, Answered}
 use Rattle.loom.specs.declared.Said.{Said}
 use Rattle.loom.specs.declared.Said.the-variants.{Nothing, Application, Answer}
-use Rattle.loom.specs.Turn.{pickPlace}
 
 -- The place of a number: "begin, posted, looking, ready, applied, bound to A, bound to B, answered A, answered B" (document 02,
 -- No. 12). No place has a number above 8: there it is the last.
 unfoldable pub placeFrom : ℕ → Place
 placeFrom n =
-    pickPlace (eqb n 0) Begin
-    (pickPlace (eqb n 1) Posted
-    (pickPlace (eqb n 2) Looking
-    (pickPlace (eqb n 3) Ready
-    (pickPlace (eqb n 4) Applied
-    (pickPlace (eqb n 5) (Bound A)
-    (pickPlace (eqb n 6) (Bound B)
-    (pickPlace (eqb n 7) (Answered A)
+    cond (eqb n 0) Begin
+    (cond (eqb n 1) Posted
+    (cond (eqb n 2) Looking
+    (cond (eqb n 3) Ready
+    (cond (eqb n 4) Applied
+    (cond (eqb n 5) (Bound A)
+    (cond (eqb n 6) (Bound B)
+    (cond (eqb n 7) (Answered A)
     (Answered B))))))))
 
 -- The mark of what a step says: "1 for an answer with side A, 2 with side B, [...] else 0."

@@ -1,7 +1,7 @@
 -- One step of one loom, by the table of document 01, "One loom's steps".
 -- Assumes nothing.
 use Prim.Native.Nat.{ℕ, zero, suc}
-use mathlib.Core.Bool.{Bool, true, false}
+use mathlib.Core.Bool.{Bool, cond, _&&_}
 use lib.Dec.{eqb}
 use Rattle.loom.specs.declared.Side.{Side}
 use Rattle.loom.specs.declared.Place.{Place}
@@ -19,31 +19,17 @@ pub record Rules : Type 0 where
   pub inLeading : ℕ → Bool
   pub yieldsAlone : Bool
 
--- The first of two where the test holds, else the second.
-abbrev pub pickSide : Bool → Side → Side → Side
-pickSide true s t = s
-pickSide false s t = t
-
-abbrev pub pickPlace : Bool → Place → Place → Place
-pickPlace true p q = p
-pickPlace false p q = q
-
 -- "Decide by the cell" means: the leading side if the cell's state is in its set, else the yielding side.
 abbrev pub decided : Rules → ℕ → Side
-decided R q = pickSide (R .inLeading q) (R .leading) (other (R .leading))
-
--- Both tests hold.
-abbrev pub both : Bool → Bool → Bool
-both true t = t
-both false t = false
+decided R q = cond (R .inLeading q) (R .leading) (other (R .leading))
 
 -- Whether a loom of side s looks before it applies: it is of the yielding side, and that side has one loom.
 abbrev pub looks : Rules → Side → Bool
-looks R s = both (R .yieldsAlone) (sameSide s (other (R .leading)))
+looks R s = R .yieldsAlone && sameSide s (other (R .leading))
 
 -- posted: "bound to the side decided by the cell, if not the start; else looking, for a yielding side of one loom; else ready".
 unfoldable pub afterPosted : Rules → Side → ℕ → Place
-afterPosted R s q = pickPlace (eqb q (R .start)) (pickPlace (looks R s) Looking Ready) (Bound (decided R q))
+afterPosted R s q = cond (eqb q (R .start)) (cond (looks R s) Looking Ready) (Bound (decided R q))
 
 -- looking: "bound to the other side if not 0, else ready". v is what the other side's register holds.
 unfoldable pub afterLooking : Side → ℕ → Place

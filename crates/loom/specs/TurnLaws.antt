@@ -2,7 +2,7 @@
 -- Assumes nothing.
 use Prim.Native.Nat.{ℕ, zero, suc}
 use mathlib.Core.Path.{_≡_, refl, sym, ap, _∙_}
-use mathlib.Core.Bool.{Bool, true, false}
+use mathlib.Core.Bool.{Bool, true, false, cond, _&&_}
 use lib.Dec.{eqb}
 use borrow.Author.Tests.{eq-eqb, ne-eqb}
 use Rattle.loom.specs.declared.Side.{Side}
@@ -10,36 +10,36 @@ use Rattle.loom.specs.declared.Place.{Place}
 use Rattle.loom.specs.declared.Place.the-variants.{Begin, Posted, Looking, Ready, Applied, Bound, Answered}
 use Rattle.loom.specs.declared.Shared.{Shared}
 use Rattle.loom.specs.Sides.{other, sameSide}
-use Rattle.loom.specs.Turn.{Rules, Turn, pickSide, pickPlace, both, decided, looks, afterPosted, afterLooking, turnOf}
+use Rattle.loom.specs.Turn.{Rules, Turn, decided, looks, afterPosted, afterLooking, turnOf}
 
 -- In its set the cell decides for the leading side.
 pub decided-leading : (R : Rules) (q : ℕ) → R .inLeading q ≡ true → R .leading ≡ decided R q
-decided-leading R q h = sym (ap (λ t. pickSide t (R .leading) (other (R .leading))) h)
+decided-leading R q h = sym (ap (λ t. cond t (R .leading) (other (R .leading))) h)
 
 -- Elsewhere it decides for the yielding side.
 pub decided-yielding : (R : Rules) (q : ℕ) (s : Side) → R .inLeading q ≡ false → s ≡ other (R .leading) → s ≡ decided R q
-decided-yielding R q s h e = e ∙ sym (ap (λ t. pickSide t (R .leading) (other (R .leading))) h)
+decided-yielding R q s h e = e ∙ sym (ap (λ t. cond t (R .leading) (other (R .leading))) h)
 
 -- A loom looks where the yielding side has one loom, and it is of that side.
 pub looks-alone : (R : Rules) (s : Side) (t : Bool) → R .yieldsAlone ≡ true → t ≡ sameSide s (other (R .leading)) → t ≡ looks R s
-looks-alone R s t h e = e ∙ sym (ap (λ a. both a (sameSide s (other (R .leading)))) h)
+looks-alone R s t h e = e ∙ sym (ap (λ a. a && sameSide s (other (R .leading))) h)
 
 -- No loom looks where the yielding side has several.
 pub looks-several : (R : Rules) (s : Side) → R .yieldsAlone ≡ false → false ≡ looks R s
-looks-several R s h = sym (ap (λ a. both a (sameSide s (other (R .leading)))) h)
+looks-several R s h = sym (ap (λ a. a && sameSide s (other (R .leading))) h)
 
 -- From posted, away from the start: bound to the side decided by the cell.
 pub posted-away : (R : Rules) (s x : Side) (q : ℕ) → (q ≡ R .start → ⊥) → x ≡ decided R q → Bound x ≡ afterPosted R s q
 unfolding afterPosted
 posted-away R s x q h e =
-    ap Bound e ∙ sym (ap (λ t. pickPlace t (pickPlace (looks R s) Looking Ready) (Bound (decided R q))) (ne-eqb q (R .start) h))
+    ap Bound e ∙ sym (ap (λ t. cond t (cond (looks R s) Looking Ready) (Bound (decided R q))) (ne-eqb q (R .start) h))
 
 -- From posted, at the start: looking or ready.
-pub posted-at-start : (R : Rules) (s : Side) (q : ℕ) (t : Bool) → q ≡ R .start → t ≡ looks R s → pickPlace t Looking Ready ≡ afterPosted R s q
+pub posted-at-start : (R : Rules) (s : Side) (q : ℕ) (t : Bool) → q ≡ R .start → t ≡ looks R s → cond t Looking Ready ≡ afterPosted R s q
 unfolding afterPosted
 posted-at-start R s q t h e =
-    ap (λ b. pickPlace b Looking Ready) e
-    ∙ sym (ap (λ b. pickPlace b (pickPlace (looks R s) Looking Ready) (Bound (decided R q))) (eq-eqb q (R .start) h))
+    ap (λ b. cond b Looking Ready) e
+    ∙ sym (ap (λ b. cond b (cond (looks R s) Looking Ready) (Bound (decided R q))) (eq-eqb q (R .start) h))
 
 -- From looking, where the other side has not posted.
 pub looking-none : (s : Side) (v : ℕ) → v ≡ 0 → Ready ≡ afterLooking s v

@@ -3,7 +3,7 @@
 -- Assumes nothing.
 use Prim.Native.Nat.{ℕ, zero, suc}
 use mathlib.Core.Path.{_≡_}
-use mathlib.Core.Bool.{Bool, true, false}
+use mathlib.Core.Bool.{cond}
 use mathlib.Core.List.{List, []}
 use denote.Ref.{RefT, now}
 use lib.Dec.{eqb}
@@ -13,15 +13,10 @@ use lib.ListN.{length, getD, take}
 abbrev pub space : ℕ
 space = 32
 
--- the first where the test holds, else the second
-abbrev pub pickLength : Bool → ℕ → ℕ → ℕ
-pickLength true m n = m
-pickLength false m n = n
-
 -- How many of the first n bytes are left without the spaces at their end.
 unfoldable pub trimmedOf : List ℕ → ℕ → ℕ
 trimmedOf s zero = 0
-trimmedOf s (suc n) = pickLength (eqb (getD s n 0) space) (trimmedOf s n) (suc n)
+trimmedOf s (suc n) = cond (eqb (getD s n 0) space) (trimmedOf s n) (suc n)
 
 -- A label without its trailing spaces.
 unfoldable pub trimOf : List ℕ → List ℕ

@@ -4,13 +4,13 @@ use Prim.Native.Nat.{ℕ, zero, suc, _+_, _-_, _≤_, _<_}
 use native.Mathlib.Nat.{eq-or-lt-of-le, le-of-suc-le-suc}
 use native.Mathlib.Omega.{arith}
 use mathlib.Core.Path.{_≡_, refl, sym, ap, _∙_}
-use mathlib.Core.Bool.{Bool, true, false}
+use mathlib.Core.Bool.{Bool, true, false, cond}
 use mathlib.Core.List.{List}
 use mathlib.Core.Logic.{⊎-elim}
 use lib.Dec.{eqb}
 use lib.ListN.{length, getD}
 use borrow.Author.Tests.{eq-eqb, ne-eqb, eqb-true, eqb-false}
-use Rattle.order.specs.Label.{space, pickLength, trimmedOf, bySide}
+use Rattle.order.specs.Label.{space, trimmedOf, bySide}
 
 -- The last of some bytes is a space, or it isn't.
 pub trimmed-space : (s : List ℕ) (n : ℕ) → 0 < n → getD s (n - 1) 0 ≡ space → trimmedOf s n ≡ trimmedOf s (n - 1)
@@ -35,18 +35,18 @@ trimmed-none s (suc k) h = absurd (omega arith)
 
 -- By the last of suc k bytes: a space, or not.
 module _ (s : List ℕ) (k : ℕ) where
-  most-by : (t : Bool) → trimmedOf s k ≤ k → pickLength t (trimmedOf s k) (suc k) ≤ suc k
+  most-by : (t : Bool) → trimmedOf s k ≤ k → cond t (trimmedOf s k) (suc k) ≤ suc k
   most-by true h = omega arith
   most-by false h = omega arith
 
   off-by : (t : Bool) (j : ℕ) → eqb (getD s k 0) space ≡ t → (trimmedOf s k ≤ j → j < k → getD s j 0 ≡ space)
-      → pickLength t (trimmedOf s k) (suc k) ≤ j → j < suc k → getD s j 0 ≡ space
+      → cond t (trimmedOf s k) (suc k) ≤ j → j < suc k → getD s j 0 ≡ space
   off-by true j e before h l =
       ⊎-elim (λ (b : j ≡ k). ap (λ (i : ℕ). getD s i 0) b ∙ eqb-true (getD s k 0) space e) (λ (b : j < k). before h b) (eq-or-lt-of-le (le-of-suc-le-suc l))
   off-by false j e before h l = absurd (omega arith)
 
   ends-by : (t : Bool) (j : ℕ) → eqb (getD s k 0) space ≡ t → (trimmedOf s k ≡ suc j → getD s j 0 ≡ space → ⊥)
-      → pickLength t (trimmedOf s k) (suc k) ≡ suc j → getD s j 0 ≡ space → ⊥
+      → cond t (trimmedOf s k) (suc k) ≡ suc j → getD s j 0 ≡ space → ⊥
   ends-by true j e before h l = before h l
   ends-by false j e before h l =
       let same : j ≡ k = omega arith in

@@ -2,6 +2,7 @@
 -- Assumes nothing.
 use Prim.Native.Nat.{ℕ, zero, suc, _+_, _*_}
 use mathlib.Core.Path.{_≡_}
+use mathlib.Core.Bool.{cond, _&&_}
 use mathlib.Core.List.{List, [], _∷_, _++_}
 use lib.Dec.{leb}
 use lib.ListN.{length, drop, replicate}
@@ -10,7 +11,7 @@ use Rattle.recording.specs.Recording.{emptySeat}
 use Rattle.recording.specs.declared.Seat.{Seat}
 use Rattle.xdr.specs.declared.Field.{Field}
 use Rattle.xdr.specs.declared.Field.the-variants.{Is, Not}
-use Rattle.xdr.specs.Field.{pickField, both, wordAt}
+use Rattle.xdr.specs.Field.{wordAt}
 use Rattle.order.specs.declared.Order.{Order}
 use Rattle.order.specs.declared.Piece.{Piece}
 use Rattle.format.specs.declared.Plan.{Plan}
@@ -23,7 +24,7 @@ tableRoom L = L .states * L .operations
 
 -- "Reading: 40 first (...), then the fields in file order"; "for 40, zero".
 unfoldable pub readingOf : Limits → List ℕ → ℕ → ℕ → Field
-readingOf L s table schedule = pickField (both (leb (tableRoom L) table) (leb (L .entries) schedule)) (verdictOf L s) (Not 40 0)
+readingOf L s table schedule = cond (leb (tableRoom L) table && leb (L .entries) schedule) (verdictOf L s) (Not 40 0)
 
 -- The words of n items of four bytes, from p on.
 unfoldable pub wordsAt : List ℕ → ℕ → ℕ → List ℕ

@@ -5,7 +5,7 @@ use Prim.Native.Nat.{ℕ, zero, suc, _+_, _-_, _≤_}
 use native.Mathlib.Nat.{add-zero}
 use native.Mathlib.Omega.{arith}
 use mathlib.Core.Path.{_≡_, refl, ap, _∙_}
-use mathlib.Core.Bool.{Bool, true, false}
+use mathlib.Core.Bool.{Bool, true, false, cond, _&&_}
 use mathlib.Core.List.{List}
 use lib.Dec.{eqb, leb}
 use lib.ListN.{length, getD, take, drop}
@@ -13,19 +13,19 @@ use lib.Seq.{getD-take, getD-drop}
 use borrow.Author.Tests.{leb-true, leb-false, eq-eqb, ne-eqb}
 use Rattle.xdr.specs.declared.Field.{Field}
 use Rattle.xdr.specs.declared.Field.the-variants.{Is, Not}
-use Rattle.xdr.specs.Field.{pickField, pickNumber, both, wordFits, wordAt, judged, fieldAt, run, endAt}
+use Rattle.xdr.specs.Field.{wordFits, wordAt, judged, fieldAt, run, endAt}
 use Rattle.xdr.specs.Opaque.{padOf, padded, all, opaqueAt}
 use Rattle.xdr.specs.OpaqueLaws.{opaque-taken}
 use Rattle.reader.specs.Reader.{anything, leftOf, endOf, after, readOf}
 
 -- What is handed out at p, with a test of its own: refused with the code at p where it does not pass.
 abbrev pub tested : Bool → ℕ → ℕ → Field → Field
-tested passes code p (Is v) = pickField passes (Is v) (Not code p)
+tested passes code p (Is v) = cond passes (Is v) (Not code p)
 tested passes code p (Not c q) = Not c q
 
 -- The same with a test of the value that is handed out.
 abbrev pub testedBy : (ℕ → Bool) → ℕ → ℕ → Field → Field
-testedBy ok code p (Is v) = pickField (ok v) (Is v) (Not code p)
+testedBy ok code p (Is v) = cond (ok v) (Is v) (Not code p)
 testedBy ok code p (Not c q) = Not c q
 
 -- A judged field is tested after it is handed out.
@@ -62,11 +62,11 @@ part-is-opaque ok code s n p =
     ∙ tested-is-judged (leb (p + padded n) (length s)) (all ok s n p) (p + padded n) code p
 
 -- The file's end is where nothing is left.
-pub nothing-left-is-end : (code : ℕ) (s : List ℕ) (p : ℕ) → pickField (eqb (leftOf s p) 0) (Is p) (Not code p) ≡ endAt code s p
+pub nothing-left-is-end : (code : ℕ) (s : List ℕ) (p : ℕ) → cond (eqb (leftOf s p) 0) (Is p) (Not code p) ≡ endAt code s p
 unfolding endAt
 nothing-left-is-end code s p = go (leb (length s) p) refl
   where
-    go : (t : Bool) → leb (length s) p ≡ t → pickField (eqb (leftOf s p) 0) (Is p) (Not code p) ≡ pickField (leb (length s) p) (Is p) (Not code p)
+    go : (t : Bool) → leb (length s) p ≡ t → cond (eqb (leftOf s p) 0) (Is p) (Not code p) ≡ cond (leb (length s) p) (Is p) (Not code p)
     go true e = let h = leb-true (length s) p e in let z : length s - p ≡ 0 = omega (arith, h) in simp (e, eq-eqb (length s - p) 0 z)
     go false e = let h = leb-false (length s) p e in let z : (length s - p ≡ 0 → ⊥) = λ w. omega (arith, h, w) in simp (e, ne-eqb (length s - p) 0 z)
 
@@ -83,11 +83,11 @@ pub part-inside : (s : List ℕ) (n p q : ℕ) → endOf s n p ≡ Is q → p + 
 part-inside s n p q h = omega (arith, leb-true (p + padded n) (length s) (opaque-taken anything 1 s n p q h .inside))
 
 -- A word has no padding: where it is there the reader moves past it by its four bytes, and else stays.
-pub past-a-word : (s : List ℕ) (p : ℕ) → readOf s 4 p .next ≡ pickNumber (wordFits s p) (p + 4) p
+pub past-a-word : (s : List ℕ) (p : ℕ) → readOf s 4 p .next ≡ cond (wordFits s p) (p + 4) p
 unfolding opaqueAt padOf
 past-a-word s p = ap (λ (t : Bool). after (judged (wordFits s p) t (p + 4) 1 p) p) (all-anything s 4 p) ∙ past-judged (wordFits s p) (p + 4) p
   where
-    past-judged : (reaches : Bool) (v p : ℕ) → after (judged reaches true v 1 p) p ≡ pickNumber reaches v p
+    past-judged : (reaches : Bool) (v p : ℕ) → after (judged reaches true v 1 p) p ≡ cond reaches v p
     past-judged true v p = refl
     past-judged false v p = refl
 
@@ -101,4 +101,4 @@ part-bytes ok s n p = go n 0 (omega arith) ∙ ap (all ok s n) (add-zero p)
     go (suc k) j h =
         let byte : getD (take n (drop p s)) j 0 ≡ getD s (p + j) 0 = getD-take n (drop p s) j 0 (omega arith) ∙ getD-drop p s j 0 in
         let rest : all ok (take n (drop p s)) k (j + 1) ≡ all ok s k (p + j + 1) = go k (j + 1) (omega arith) ∙ ap (all ok s k) (omega arith) in
-        λ i. both (ok (byte i)) (rest i)
+        λ i. ok (byte i) && rest i

@@ -2,7 +2,7 @@
 -- Assumes nothing.
 use Prim.Native.Nat.{ℕ, zero, suc, _≤_, _<_}
 use mathlib.Core.Path.{_≡_, refl, sym, ap, subst, _∙_}
-use mathlib.Core.Bool.{Bool, true, false}
+use mathlib.Core.Bool.{Bool, true, false, cond, _||_}
 use mathlib.Core.List.{List, [], _∷_}
 use native.Mathlib.Decide.{decLe, ℕ-discrete}
 use native.Mathlib.Nat.{le-of-suc-le-suc, not-suc-le-zero}
@@ -12,7 +12,7 @@ use lib.Dec.{leb, ltb}
 use lib.ListN.{length, length-take}
 use Rattle.cell.specs.declared.Formed.{Formed}
 use Rattle.cell.specs.Limits.{edition}
-use Rattle.cell.specs.Table.{entryOf, either, pick, formed, formOf}
+use Rattle.cell.specs.Table.{entryOf, formed, formOf}
 use Rattle.cell.specs.TableLaws.{HasForm, form-says, good-moves}
 use Rattle.recording.specs.declared.Certificate.{Certificate}
 use Rattle.recording.specs.declared.Seat.{Seat}
@@ -32,7 +32,7 @@ all-fitted operations (l ∷ ls) none k within =
   where
     go : (length ls ≤ firstMisfit operations ls → (k : ℕ) → k < length ls → (sideAt ls k ≤ 1) × (operationAt ls k < operations))
         → (s : Bool) → ltb 1 (l .side) ≡ s → (o : Bool) → leb operations (l .operation) ≡ o
-        → suc (length ls) ≤ pick (either s o) 0 (suc (firstMisfit operations ls))
+        → suc (length ls) ≤ cond (s || o) 0 (suc (firstMisfit operations ls))
         → (k : ℕ) → k < suc (length ls) → (sideAt (l ∷ ls) k ≤ 1) × (operationAt (l ∷ ls) k < operations)
     go rest true e o f none k within = absurd (not-suc-le-zero none)
     go rest false e true f none k within = absurd (not-suc-le-zero none)
@@ -45,7 +45,7 @@ unfolding firstMisfit
 misfit-at-most operations [] = omega arith
 misfit-at-most operations (l ∷ ls) = go (misfitOf operations l) (misfit-at-most operations ls)
   where
-    go : (b : Bool) → firstMisfit operations ls ≤ length ls → pick b 0 (suc (firstMisfit operations ls)) ≤ suc (length ls)
+    go : (b : Bool) → firstMisfit operations ls ≤ length ls → cond b 0 (suc (firstMisfit operations ls)) ≤ suc (length ls)
     go true rest = omega arith
     go false rest = omega arith
 

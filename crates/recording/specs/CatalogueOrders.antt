@@ -14,7 +14,7 @@ use Rattle.cell.specs.Catalogue.{tableOf, afterZero}
 use Rattle.cell.specs.CatalogueLaws.{zero-from-start, zero-of-number, one-of-number, entry-of-zero, entry-of-one}
 use Rattle.cell.specs.Table.{entryOf}
 use Rattle.recording.specs.declared.Seat.{Seat}
-use Rattle.recording.specs.OrdersLaws.{one-small}
+use Rattle.recording.specs.OrdersLaws.{one-at-most}
 use Rattle.recording.specs.Recording.{emptySeat, sideAt, operationAt, one, times, Order, reached, InSet}
 
 -- "Loom 0 on side A with operation 0, all others on side B with operation 1."
@@ -114,7 +114,7 @@ in-turn-once j zero i = omega arith
 in-turn-once j (suc k) i = go (ℕ-discrete j i) (in-turn-once (suc j) k i)
   where
     go : Dec (j ≡ i) → times i (inTurn (suc j) k) ≤ 1 → one (eqb j i) + times i (inTurn (suc j) k) ≤ 1
-    go (yes same) rest = omega (arith, one-small (eqb j i), in-turn-before (suc j) k i (omega arith))
+    go (yes same) rest = omega (arith, one-at-most (eqb j i), in-turn-before (suc j) k i (omega arith))
     go (no other) rest = omega (arith, ap one (ne-eqb j i other))
 
 others-in-turn : (j k : ℕ) → others (inTurn (suc j) k) ≡ k

@@ -1,7 +1,7 @@
 -- The check's answer: document 01, "Cell and certificate" and "Codes and their order".
 -- Assumes nothing.
 use Prim.Native.Nat.{ℕ, suc, _*_, _^_}
-use mathlib.Core.Bool.{Bool, true, false, not}
+use mathlib.Core.Bool.{Bool, not, cond, _&&_, _||_}
 use mathlib.Core.List.{List, [], _∷_, _++_}
 use lib.Bits.{bitAnd}
 use lib.Dec.{leb, ltb, eqb}
@@ -9,7 +9,7 @@ use lib.ListN.{length, take, drop}
 use Rattle.sets.specs.Sets.{hasOf, sizeOf, lowestOf, wordBits}
 use Rattle.cell.specs.declared.Formed.{Formed}
 use Rattle.cell.specs.Limits.{edition}
-use Rattle.cell.specs.Table.{entryOf, both, either, pick, pickFormed, outsideOf, formed, formOf}
+use Rattle.cell.specs.Table.{entryOf, outsideOf, formed, formOf}
 use Rattle.recording.specs.declared.Seat.{Seat}
 use Rattle.recording.specs.declared.Certificate.{Certificate}
 use Rattle.recording.specs.declared.Judged.{Judged}
@@ -25,16 +25,16 @@ loomsOf c = take (c .count) (c .seats)
 -- ---- the refusals that leave the area alone
 -- "8: a side above 1, or an operation not fitted."
 abbrev pub misfitOf : ℕ → Seat → Bool
-misfitOf operations l = either (ltb 1 (l .side)) (leb operations (l .operation))
+misfitOf operations l = ltb 1 (l .side) || leb operations (l .operation)
 
 -- The lowest such loom, or the number of looms.
 unfoldable pub firstMisfit : ℕ → List Seat → ℕ
 firstMisfit operations [] = 0
-firstMisfit operations (l ∷ ls) = pick (misfitOf operations l) 0 (suc (firstMisfit operations ls))
+firstMisfit operations (l ∷ ls) = cond (misfitOf operations l) 0 (suc (firstMisfit operations ls))
 
 -- "9: a side without a loom."
 abbrev pub lacksSide : List Seat → Bool
-lacksSide looms = either (eqb (sideCount 0 looms) 0) (eqb (sideCount 1 looms) 0)
+lacksSide looms = eqb (sideCount 0 looms) 0 || eqb (sideCount 1 looms) 0
 
 -- The words that the check works in: "2 × 2^n".
 abbrev pub roomFor : ℕ → ℕ
@@ -43,37 +43,33 @@ roomFor count = 2 * 2 ^ count
 -- 7 to 9 and 40, of a certificate whose start is a state.
 unfoldable pub loomsFault : ℕ → Certificate → ℕ → Formed
 loomsFault operations c room =
-    pickFormed (outsideOf 2 (edition .looms) (c .count)) (formed 7 0)
-    (pickFormed (ltb (firstMisfit operations (loomsOf c)) (c .count)) (formed 8 (firstMisfit operations (loomsOf c)))
-    (pickFormed (lacksSide (loomsOf c)) (formed 9 0)
-    (pickFormed (ltb room (roomFor (c .count))) (formed 40 0) (formed 0 0))))
+    cond (outsideOf 2 (edition .looms) (c .count)) (formed 7 0)
+    (cond (ltb (firstMisfit operations (loomsOf c)) (c .count)) (formed 8 (firstMisfit operations (loomsOf c)))
+    (cond (lacksSide (loomsOf c)) (formed 9 0)
+    (cond (ltb room (roomFor (c .count))) (formed 40 0) (formed 0 0))))
 
 -- "2 to 9 in number order, then 40": the first that applies, and its place; code 0 where none does. `room` is the area's length.
 unfoldable pub faultOf : List ℕ → ℕ → ℕ → Certificate → ℕ → Formed
 faultOf table states operations c room =
-    pickFormed (not (eqb (formOf table states operations .code) 0)) (formOf table states operations)
-    (pickFormed (leb states (c .start)) (formed 6 0) (loomsFault operations c room))
+    cond (not (eqb (formOf table states operations .code) 0)) (formOf table states operations)
+    (cond (leb states (c .start)) (formed 6 0) (loomsFault operations c room))
 
 -- ---- the answer
 -- A code, a place and the two sets.
 abbrev pub judgement : ℕ → ℕ → ℕ → ℕ → Judged
 judgement code place a b = record { code = code; place = place; a = a; b = b }
 
-abbrev pub pickJudged : Bool → Judged → Judged → Judged
-pickJudged true j k = j
-pickJudged false j k = k
-
 -- The start is in a side's set, and the other side has not one loom.
 abbrev pub comesBack : ℕ → ℕ → ℕ → Bool
-comesBack start set others = both (hasOf set start) (not (eqb others 1))
+comesBack start set others = hasOf set start && not (eqb others 1)
 
 -- "20: a state in both sets. 21: start in the set of A, B not one loom. 22: start in the set of B, A not one loom." "Place: [...] the
 -- lowest shared state for 20, the start for 21 and 22, else 0." `ofA` and `ofB` are the sides' counts, a and b their sets.
 unfoldable pub verdictOf : ℕ → ℕ → ℕ → ℕ → ℕ → Judged
 verdictOf start ofA ofB a b =
-    pickJudged (not (eqb (bitAnd a b) 0)) (judgement 20 (lowestOf wordBits (bitAnd a b)) a b)
-    (pickJudged (comesBack start a ofB) (judgement 21 start a b)
-    (pickJudged (comesBack start b ofA) (judgement 22 start a b) (judgement 0 0 a b)))
+    cond (not (eqb (bitAnd a b) 0)) (judgement 20 (lowestOf wordBits (bitAnd a b)) a b)
+    (cond (comesBack start a ofB) (judgement 21 start a b)
+    (cond (comesBack start b ofA) (judgement 22 start a b) (judgement 0 0 a b)))
 
 -- The verdict on a certificate with these two sets.
 abbrev pub verdictOn : Certificate → ℕ → ℕ → Judged
@@ -92,7 +88,7 @@ setsBy table states c = filledSets (setBy table states c 0) (setBy table states 
 
 -- The fault where there is one, with no sets; else the verdict.
 abbrev pub judgedBy : Formed → Judged → Judged
-judgedBy fault verdict = pickJudged (eqb (fault .code) 0) verdict (judgement (fault .code) (fault .place) 0 0)
+judgedBy fault verdict = cond (eqb (fault .code) 0) verdict (judgement (fault .code) (fault .place) 0 0)
 
 -- The check's code and place, and the two sets: given with 0 and 20 to 22, else empty.
 unfoldable pub judgedOf : List ℕ → ℕ → ℕ → Certificate → ℕ → Judged
@@ -112,9 +108,6 @@ unfoldable pub checkOf : List ℕ → ℕ → ℕ → Certificate → ℕ → Ch
 checkOf table states operations c room = sizesOf (judgedOf table states operations c room)
 
 -- ---- the area afterwards
-abbrev pub pickWords : Bool → List ℕ → List ℕ → List ℕ
-pickWords true l m = l
-pickWords false l m = m
 
 -- The words of side X.
 abbrev pub wordsBy : List ℕ → ℕ → Certificate → ℕ → List ℕ
@@ -127,4 +120,4 @@ wordsOver table states c area = wordsBy table states c 0 ++ wordsBy table states
 -- "A refusal writes nothing to lent memory", with the exception that past 2 to 9 and 40 the area is filled.
 unfoldable pub areaOf : List ℕ → ℕ → ℕ → Certificate → List ℕ → List ℕ
 areaOf table states operations c area =
-    pickWords (eqb (faultOf table states operations c (length area) .code) 0) (wordsOver table states c area) area
+    cond (eqb (faultOf table states operations c (length area) .code) 0) (wordsOver table states c area) area

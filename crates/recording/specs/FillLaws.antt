@@ -2,7 +2,7 @@
 -- Assumes nothing.
 use Prim.Native.Nat.{ℕ, zero, suc, _+_, _-_, _*_, _^_, _≤_, _<_}
 use mathlib.Core.Path.{_≡_, refl, sym, ap, ap₂, _∙_}
-use mathlib.Core.Bool.{Bool, true, false}
+use mathlib.Core.Bool.{Bool, true, false, cond}
 use mathlib.Core.List.{List, [], _∷_, _++_, append-nil, append-assoc}
 use native.Mathlib.Nat.{le-of-eq}
 use native.Mathlib.Numerals.{add-one}
@@ -22,7 +22,7 @@ use Rattle.recording.specs.Fitting.{wordsTo, wordBy}
 use Rattle.recording.specs.OrdersLaws.{single-within}
 use Rattle.recording.specs.Recording.{operationAt}
 use Rattle.recording.specs.SetLaws.{union-end}
-use Rattle.recording.specs.Words.{pickSet, advanced, unionOf, firstBy, lastBy, wordFrom, filled, setOf}
+use Rattle.recording.specs.Words.{advanced, unionOf, firstBy, lastBy, wordFrom, filled, setOf}
 use Rattle.recording.specs.WordsLaws.{length-filled}
 
 -- Word m looks at the words below m alone.
@@ -33,10 +33,10 @@ module _ (next : ℕ → ℕ → ℕ) (looms : List Seat) (states start X : ℕ)
   last-by-prefix j = go (hasOf m j) refl
     where
       by : ℕ → ℕ
-      by word = pickSet (eqb m (2 ^ j)) (firstBy next looms states start X j) (advanced (next (operationAt looms j)) word states)
+      by word = cond (eqb m (2 ^ j)) (firstBy next looms states start X j) (advanced (next (operationAt looms j)) word states)
 
       go : (b : Bool) → hasOf m j ≡ b
-          → pickSet b (by (getD (earlier ++ rest) (m - 2 ^ j) 0)) 0 ≡ pickSet b (by (getD earlier (m - 2 ^ j) 0)) 0
+          → cond b (by (getD (earlier ++ rest) (m - 2 ^ j) 0)) 0 ≡ cond b (by (getD earlier (m - 2 ^ j) 0)) 0
       go true has =
           ap by
           (List·getD-append earlier rest 0 (m - 2 ^ j)

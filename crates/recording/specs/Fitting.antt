@@ -3,6 +3,7 @@
 -- Assumes nothing.
 use Prim.Native.Nat.{ℕ, _-_, _^_, _≤_, _<_}
 use mathlib.Core.Path.{_≡_}
+use mathlib.Core.Bool.{cond}
 use mathlib.Core.List.{List, [], _∷_, map}
 use lib.Dec.{eqb}
 use lib.ListN.{length, getD}
@@ -12,7 +13,7 @@ use Rattle.cell.specs.Table.{entryOf, nextOf}
 use Rattle.recording.specs.declared.Columns.{Columns}
 use Rattle.recording.specs.declared.Seat.{Seat}
 use Rattle.recording.specs.Recording.{operationAt}
-use Rattle.recording.specs.Words.{pickSet, advanced, wordFrom, filled}
+use Rattle.recording.specs.Words.{advanced, wordFrom, filled}
 
 -- The lookup of this operation is not refused in any state, and leads to a state.
 pub record Steps (table : List ℕ) (states operation : ℕ) : Type 0 where
@@ -51,8 +52,8 @@ wordBy table states looms start X earlier m k = wordFrom (entryOf table states) 
 
 -- What a loom adds as the first of an order, and as the last of one: `lone` is the set of that loom alone.
 abbrev pub firstIn : List ℕ → ℕ → Seat → ℕ → ℕ → ℕ
-firstIn table states l X start = pickSet (eqb (l .side) X) (2 ^ entryOf table states (l .operation) start) 0
+firstIn table states l X start = cond (eqb (l .side) X) (2 ^ entryOf table states (l .operation) start) 0
 
 abbrev pub addedBy : List ℕ → ℕ → Seat → ℕ → ℕ → List ℕ → ℕ → ℕ → ℕ
 addedBy table states l start X earlier m lone =
-    pickSet (eqb m lone) (firstIn table states l X start) (advanced (entryOf table states (l .operation)) (getD earlier (m - lone) 0) states)
+    cond (eqb m lone) (firstIn table states l X start) (advanced (entryOf table states (l .operation)) (getD earlier (m - lone) 0) states)

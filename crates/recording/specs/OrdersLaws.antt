@@ -24,9 +24,10 @@ single-digits j i = go (eqb j i) refl
     go true e = subst (λ (k : ℕ). bit (2 ^ j) k ≡ 1) (eqb-true j i e) (bit-single-same j)
     go false e = bit-single-other j i (eqb-false j i e)
 
-pub one-small : (b : Bool) → one b ≤ 1
-one-small true = omega arith
-one-small false = omega arith
+-- A test counts for one at most.
+pub one-at-most : (b : Bool) → one b ≤ 1
+one-at-most true = omega arith
+one-at-most false = omega arith
 
 -- A set that has loom j is at least the set of j alone.
 pub single-within : (m j : ℕ) → bit m j ≡ 1 → 2 ^ j ≤ m

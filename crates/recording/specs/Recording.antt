@@ -3,7 +3,7 @@
 -- Assumes nothing.
 use Prim.Native.Nat.{ℕ, _+_, _≤_}
 use mathlib.Core.Path.{_≡_}
-use mathlib.Core.Bool.{Bool, true, false}
+use mathlib.Core.Bool.{Bool, cond}
 use mathlib.Core.Logic.{_⊎_}
 use mathlib.Core.List.{List, [], _∷_}
 use lib.Dec.{eqb}
@@ -21,10 +21,9 @@ sideAt looms k = getD looms k emptySeat .side
 abbrev pub operationAt : List Seat → ℕ → ℕ
 operationAt looms k = getD looms k emptySeat .operation
 
--- one where the test holds
+-- One where the test holds.
 abbrev pub one : Bool → ℕ
-one true = 1
-one false = 0
+one test = cond test 1 0
 
 -- How many looms are of side X.
 abbrev pub sideCount : ℕ → List Seat → ℕ

@@ -2,7 +2,7 @@
 -- Assumes nothing.
 use Prim.Native.Nat.{ℕ, _^_, _<_}
 use mathlib.Core.Path.{_≡_, refl, sym, ap, subst, _∙_}
-use mathlib.Core.Bool.{Bool, true, false, not}
+use mathlib.Core.Bool.{Bool, true, false, not, cond, _&&_}
 use mathlib.Core.Logic.{_⊎_, inl, inr}
 use native.Mathlib.Decide.{ℕ-discrete, decLt}
 use native.Mathlib.Nat.{lt-of-le-of-lt}
@@ -14,7 +14,7 @@ use Rattle.sets.specs.Sets.{bit, hasOf, lowestOf, wordBits}
 use Rattle.sets.specs.MembersLaws.{Lowest, lowest-is-lowest}
 use Rattle.sets.specs.SetsLaws.{bit-small, bit-beyond, bit-zero, bit-and, equal-members}
 use Rattle.recording.specs.declared.Judged.{Judged}
-use Rattle.recording.specs.Check.{judgement, pickJudged, comesBack, verdictOf}
+use Rattle.recording.specs.Check.{judgement, comesBack, verdictOf}
 use Rattle.recording.specs.CheckLaws.{verdict-shared, verdict-returns-A, verdict-returns-B, verdict-accepted}
 
 -- ---- what the tests say
@@ -59,7 +59,7 @@ stays-away : (start set others : ℕ) → Away start set others → comesBack st
 stays-away start set others (inl out) = rw (ne-eqb (bit set start) 1 out)
 stays-away start set others (inr one) = go (hasOf set start)
   where
-    go : (t : Bool) → Rattle.cell.specs.Table.both t (not (eqb others 1)) ≡ false
+    go : (t : Bool) → t && not (eqb others 1) ≡ false
     go true = rw (eq-eqb others 1 one)
     go false = refl
 
@@ -158,7 +158,7 @@ module _ (start ofA ofB a b : ℕ) where
 abbrev Gives : ℕ → ℕ → Judged → Type 0
 Gives a b j = (j .a ≡ a) × (j .b ≡ b)
 
-either-gives : (a b : ℕ) (t : Bool) (j k : Judged) → Gives a b j → Gives a b k → Gives a b (pickJudged t j k)
+either-gives : (a b : ℕ) (t : Bool) (j k : Judged) → Gives a b j → Gives a b k → Gives a b (cond t j k)
 either-gives a b true j k one other = one
 either-gives a b false j k one other = other
 
@@ -166,9 +166,9 @@ pub verdict-gives : (start ofA ofB a b : ℕ) → (verdictOf start ofA ofB a b .
 unfolding verdictOf
 verdict-gives start ofA ofB a b =
     either-gives a b (not (eqb (bitAnd a b) 0)) (judgement 20 (lowestOf wordBits (bitAnd a b)) a b)
-    (pickJudged (comesBack start a ofB) (judgement 21 start a b) (pickJudged (comesBack start b ofA) (judgement 22 start a b) (judgement 0 0 a b)))
+    (cond (comesBack start a ofB) (judgement 21 start a b) (cond (comesBack start b ofA) (judgement 22 start a b) (judgement 0 0 a b)))
     (refl, refl)
-    (either-gives a b (comesBack start a ofB) (judgement 21 start a b) (pickJudged (comesBack start b ofA) (judgement 22 start a b) (judgement 0 0 a b))
+    (either-gives a b (comesBack start a ofB) (judgement 21 start a b) (cond (comesBack start b ofA) (judgement 22 start a b) (judgement 0 0 a b))
     (refl, refl)
     (either-gives a b (comesBack start b ofA) (judgement 22 start a b) (judgement 0 0 a b) (refl, refl) (refl, refl)))
 

@@ -3,7 +3,7 @@
 -- Over any operations, any list of looms and any number of states.
 -- Assumes nothing.
 use Prim.Native.Nat.{ℕ, zero, suc, _-_, _^_}
-use mathlib.Core.Bool.{Bool, true, false}
+use mathlib.Core.Bool.{Bool, true, false, cond}
 use mathlib.Core.List.{List, [], _∷_, _++_}
 use lib.Bits.{bitOr}
 use lib.Dec.{eqb}
@@ -11,11 +11,6 @@ use lib.ListN.{length, getD}
 use Rattle.sets.specs.Sets.{hasOf}
 use Rattle.recording.specs.declared.Seat.{Seat}
 use Rattle.recording.specs.Recording.{sideAt, operationAt}
-
--- The first of two sets where the test holds, else the second.
-abbrev pub pickSet : Bool → ℕ → ℕ → ℕ
-pickSet true a b = a
-pickSet false a b = b
 
 -- The set with state q put in, where the test holds.
 abbrev pub withIf : Bool → ℕ → ℕ → ℕ
@@ -35,14 +30,14 @@ unionOf set (w ∷ ws) = unionOf (bitOr set w) ws
 module _ (next : ℕ → ℕ → ℕ) (looms : List Seat) (states start X : ℕ) where
   -- The states that loom j leads to as the first of an order: one, for a loom of X.
   unfoldable pub firstBy : ℕ → ℕ
-  firstBy j = pickSet (eqb (sideAt looms j) X) (2 ^ next (operationAt looms j) start) 0
+  firstBy j = cond (eqb (sideAt looms j) X) (2 ^ next (operationAt looms j) start) 0
 
   -- What loom j adds to word m as the last of an order of the looms in m: nothing where m lacks it, the first word where m is
   -- that loom alone, else what the word without it moves to. `earlier` holds the words below m.
   unfoldable pub lastBy : List ℕ → ℕ → ℕ → ℕ
   lastBy earlier m j =
-      pickSet (hasOf m j)
-      (pickSet (eqb m (2 ^ j)) (firstBy j) (advanced (next (operationAt looms j)) (getD earlier (m - 2 ^ j) 0) states))
+      cond (hasOf m j)
+      (cond (eqb m (2 ^ j)) (firstBy j) (advanced (next (operationAt looms j)) (getD earlier (m - 2 ^ j) 0) states))
       0
 
   -- Word m, as far as the looms below k add to it.

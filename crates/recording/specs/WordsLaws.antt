@@ -4,7 +4,7 @@
 use Prim.Native.Nat.{ℕ, zero, suc, _+_, _-_, _^_, _≤_, _<_}
 use mathlib.Core.Path.{_≡_, refl, sym, ap, subst, _∙_}
 use mathlib.Core.Logic.{_⊎_, inl, inr, ⊎-elim}
-use mathlib.Core.Bool.{Bool, true, false}
+use mathlib.Core.Bool.{Bool, true, false, cond}
 use mathlib.Core.List.{List, [], _∷_, _++_}
 use native.Mathlib.Decide.{ℕ-discrete}
 use native.Mathlib.Nat.{le-refl, not-suc-le-zero}
@@ -24,7 +24,7 @@ use Rattle.recording.specs.declared.Seat.{Seat}
 use Rattle.recording.specs.UnionLaws.{in-union, union-first, union-second, in-single, empty-has-none, member-below, union-below, single-below}
 use Rattle.recording.specs.OrdersLaws.{single-digits, single-within, without, alone, times-end, reached-end, first-end, last-loom}
 use Rattle.recording.specs.Recording.{operationAt, sideAt, one, times, FirstIs, reached}
-use Rattle.recording.specs.Words.{pickSet, withIf, advanced, firstBy, lastBy, wordFrom, filled}
+use Rattle.recording.specs.Words.{withIf, advanced, firstBy, lastBy, wordFrom, filled}
 
 -- ---- a set moved by an operation
 -- q is where a member of the set, below k, moves to.
@@ -88,9 +88,9 @@ advanced-below move set (suc k) states fits =
 by-less : (P : ℕ → Type 0) → ((m : ℕ) → ((k : ℕ) → k < m → P k) → P m) → (m : ℕ) → P m
 by-less P step m = by-dom _<_ P step m (Nat·lt-wfRel .wf .apply m)
 
-pick-below : (b : Bool) (k a c : ℕ) → a < k → c < k → pickSet b a c < k
-pick-below true k a c small other = small
-pick-below false k a c small other = other
+cond-below : (b : Bool) (k a c : ℕ) → a < k → c < k → cond b a c < k
+cond-below true k a c small other = small
+cond-below false k a c small other = other
 
 -- The start is a state, and the looms' operations lead from states to states.
 pub record Closed (next : ℕ → ℕ → ℕ) (looms : List Seat) (states start : ℕ) : Type 0 where
@@ -145,7 +145,7 @@ module _ (next : ℕ → ℕ → ℕ) (looms : List Seat) (states start X : ℕ)
   unfolding firstBy
   in-first j q = go (eqb (sideAt looms j) X) refl
     where
-      go : (b : Bool) → eqb (sideAt looms j) X ≡ b → bit (pickSet b (2 ^ next (operationAt looms j) start) 0) q ≡ 1
+      go : (b : Bool) → eqb (sideAt looms j) X ≡ b → bit (cond b (2 ^ next (operationAt looms j) start) 0) q ≡ 1
           → (sideAt looms j ≡ X) × (next (operationAt looms j) start ≡ q)
       go true e has = (eqb-true (sideAt looms j) X e, in-single (next (operationAt looms j) start) q has)
       go false e has = absurd (empty-has-none q has)
@@ -158,12 +158,12 @@ module _ (next : ℕ → ℕ → ℕ) (looms : List Seat) (states start X : ℕ)
       moved : ℕ
       moved = advanced (next (operationAt looms j)) (getD earlier (m - 2 ^ j) 0) states
 
-      by : (b : Bool) → eqb m (2 ^ j) ≡ b → bit (pickSet b (firstBy next looms states start X j) moved) q ≡ 1 → Brought earlier m j q
+      by : (b : Bool) → eqb m (2 ^ j) ≡ b → bit (cond b (firstBy next looms states start X j) moved) q ≡ 1 → Brought earlier m j q
       by true e has = let first = in-first j q has in inl (eqb-true m (2 ^ j) e, first .0, first .1)
       by false e has = inr (in-advanced (next (operationAt looms j)) (getD earlier (m - 2 ^ j) 0) states q has)
 
       go : (b : Bool) → hasOf m j ≡ b
-          → bit (pickSet b (pickSet (eqb m (2 ^ j)) (firstBy next looms states start X j) moved) 0) q ≡ 1
+          → bit (cond b (cond (eqb m (2 ^ j)) (firstBy next looms states start X j) moved) 0) q ≡ 1
           → (bit m j ≡ 1) × Brought earlier m j q
       go true e has = (eqb-true (bit m j) 1 e, by (eqb m (2 ^ j)) refl has)
       go false e has = absurd (empty-has-none q has)
@@ -263,11 +263,11 @@ module _ (next : ℕ → ℕ → ℕ) (looms : List Seat) (states start X : ℕ)
       → lastBy next looms states start X earlier m j < 2 ^ states
   unfolding lastBy firstBy
   last-below closed earlier m j within =
-      pick-below (hasOf m j) (2 ^ states)
-      (pickSet (eqb m (2 ^ j)) (firstBy next looms states start X j) (advanced move (getD earlier (m - 2 ^ j) 0) states)) 0
-      (pick-below (eqb m (2 ^ j)) (2 ^ states) (firstBy next looms states start X j)
+      cond-below (hasOf m j) (2 ^ states)
+      (cond (eqb m (2 ^ j)) (firstBy next looms states start X j) (advanced move (getD earlier (m - 2 ^ j) 0) states)) 0
+      (cond-below (eqb m (2 ^ j)) (2 ^ states) (firstBy next looms states start X j)
       (advanced move (getD earlier (m - 2 ^ j) 0) states)
-      (pick-below (eqb (sideAt looms j) X) (2 ^ states) (2 ^ move start) 0
+      (cond-below (eqb (sideAt looms j) X) (2 ^ states) (2 ^ move start) 0
       (single-below states (move start) (closed .steps-fit j start within (closed .start-fits))) (pow-pos states))
       (advanced-below move (getD earlier (m - 2 ^ j) 0) states states (λ p. closed .steps-fit j p within)))
       (pow-pos states)

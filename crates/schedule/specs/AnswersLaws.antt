@@ -8,7 +8,8 @@ use mathlib.Core.List.{List, [], _∷_}
 use lib.Dec.{eqb}
 use lib.ListN.{length}
 use borrow.Author.Tests.{ltb-true}
-use Rattle.cell.specs.Table.{pick, entryOf}
+use Rattle.cell.specs.Table.{entryOf}
+use Rattle.recording.specs.Recording.{one}
 use Rattle.recording.specs.declared.Seat.{Seat}
 use Rattle.loom.specs.declared.Side.{Side}
 use Rattle.loom.specs.declared.Side.the-variants.{A, B}
@@ -37,7 +38,7 @@ none-at-first g A = refl
 none-at-first g B = refl
 
 -- A mark of a side's answer adds one to that side's answers.
-pub answers-in-act : (s : Side) (r : Ran) (x : Acted) → answersFor s (withActed r x) ≡ answersFor s r + pick (eqb (x .mark) (answerMark s)) 1 0
+pub answers-in-act : (s : Side) (r : Ran) (x : Acted) → answersFor s (withActed r x) ≡ answersFor s r + one (eqb (x .mark) (answerMark s))
 unfolding withActed
 answers-in-act A r x = refl
 answers-in-act B r x = refl
@@ -102,5 +103,5 @@ module _ (table : List ℕ) (states operations : ℕ) where
         omega (
           arith,
           applied-over es (withActed r x) (fits-acted table states operations looms good (r .group) fits (actOf e)) (both-named .1),
-          ap (λ t. pick t 1 0) (applied-in-act (r .group) fits (actOf e) (both-named .0)),
+          ap one (applied-in-act (r .group) fits (actOf e) (both-named .0)),
         )

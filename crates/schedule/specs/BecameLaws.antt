@@ -4,13 +4,13 @@ use Prim.Native.Nat.{ℕ, _+_, _<_}
 use native.Mathlib.Omega.{arith}
 use native.Mathlib.Decide.{ℕ-discrete}
 use mathlib.Core.Path.{_≡_, refl, sym, subst}
-use mathlib.Core.Bool.{Bool, true, false}
+use mathlib.Core.Bool.{Bool, true, false, _&&_}
 use mathlib.Core.List.{List}
 use lib.Dec.{eqb}
 use lib.ListN.{length}
 use lib.Seq.{getD-set-same, getD-set-other}
 use borrow.Author.Tests.{eq-eqb, ne-eqb, ltb-true}
-use Rattle.cell.specs.Table.{both, pick}
+use Rattle.recording.specs.Recording.{one}
 use Rattle.recording.specs.declared.Seat.{Seat}
 use Rattle.loom.specs.declared.Side.the-variants.{A, B}
 use Rattle.loom.specs.declared.Loom.{Loom}
@@ -65,7 +65,7 @@ counts-refused : (j k : ℕ) (c : ℕ) → stepsAfter k (Step j) 3 c ≡ c
 unfolding stepsAfter
 counts-refused j k c = by-test (eqb j k)
   where
-    by-test : (b : Bool) → pick (both b false) 1 0 + c ≡ c
+    by-test : (b : Bool) → one (b && false) + c ≡ c
     by-test true = omega arith
     by-test false = omega arith
 

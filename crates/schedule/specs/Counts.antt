@@ -2,11 +2,11 @@
 -- Assumes nothing.
 use Prim.Native.Nat.{ℕ, _+_, _≤_, _<_, min}
 use mathlib.Core.Path.{_≡_}
-use mathlib.Core.Bool.{Bool, true, false, not}
+use mathlib.Core.Bool.{Bool, true, false, not, cond, _&&_}
 use mathlib.Core.List.{List, [], _∷_}
 use lib.Dec.{eqb}
 use lib.ListN.{length, take}
-use Rattle.cell.specs.Table.{both, pick}
+use Rattle.recording.specs.Recording.{one}
 use Rattle.loom.specs.declared.Side.{Side}
 use Rattle.loom.specs.declared.Side.the-variants.{A, B}
 use Rattle.loom.specs.declared.Place.{Place}
@@ -32,14 +32,14 @@ answerMark B = 2
 -- How many of the marks are m.
 unfoldable pub howMany : ℕ → List ℕ → ℕ
 howMany m [] = 0
-howMany m (n ∷ marks) = pick (eqb n m) 1 0 + howMany m marks
+howMany m (n ∷ marks) = one (eqb n m) + howMany m marks
 
 -- Loom k's steps after an act that was marked m; c is how many there were before it. A step of the loom counts, unless it was refused with
 -- 31, which is mark 3; a restart of it, or of all, begins anew. In a run that isn't refused no step is refused otherwise: 13 has refused
 -- looms that aren't there, and 32 never comes (`always-fits` of `demands`).
 unfoldable pub stepsAfter : ℕ → Act → ℕ → ℕ → ℕ
-stepsAfter k (Step j) m c = pick (both (eqb j k) (not (eqb m 3))) 1 0 + c
-stepsAfter k (Restart j) m c = pick (eqb j k) 0 c
+stepsAfter k (Step j) m c = one (eqb j k && not (eqb m 3)) + c
+stepsAfter k (Restart j) m c = cond (eqb j k) 0 c
 stepsAfter k RestartAll m c = 0
 stepsAfter k Unknown m c = c
 
@@ -85,4 +85,4 @@ module _ (table : List ℕ) (states operations : ℕ) where
   -- How many entries of a schedule apply an operation.
   unfoldable pub appliedOver : Group → List ℕ → ℕ
   appliedOver g [] = 0
-  appliedOver g (e ∷ es) = pick (applies g (actOf e)) 1 0 + appliedOver (actedOf table states operations g (actOf e) .group) es
+  appliedOver g (e ∷ es) = one (applies g (actOf e)) + appliedOver (actedOf table states operations g (actOf e) .group) es

@@ -3,12 +3,11 @@
 use Prim.Native.Nat.{ℕ, _≤_, _<_, min, max}
 use native.Mathlib.Omega.{arith}
 use mathlib.Core.Path.{_≡_, refl, ap, sym, _∙_}
-use mathlib.Core.Bool.{Bool, true, false}
+use mathlib.Core.Bool.{Bool, true, false, _&&_}
 use mathlib.Core.List.{List, [], _∷_}
 use mathlib.Core.Logic.{_⊎_, inl, inr}
 use lib.ListN.{length}
 use borrow.Author.Tests.{ltb-true}
-use Rattle.cell.specs.Table.{both}
 use Rattle.recording.specs.declared.Seat.{Seat}
 use Rattle.loom.specs.Looms.{mostSteps, movedTo}
 use Rattle.group.specs.declared.Group.{Group}
@@ -30,7 +29,7 @@ pub first-named : (n e : ℕ) (es : List ℕ) → allNamed n (e ∷ es) ≡ true
 unfolding allNamed
 first-named n e es = by-test (isNamed n (actOf e))
   where
-    by-test : (b : Bool) → both b (allNamed n es) ≡ true → (b ≡ true) × (allNamed n es ≡ true)
+    by-test : (b : Bool) → b && allNamed n es ≡ true → (b ≡ true) × (allNamed n es ≡ true)
     by-test true rest = (refl, rest)
     by-test false rest = let z : _≡_ {A = ℕ} 0 1 = cc in absurd (omega arith)
 

@@ -2,7 +2,7 @@
 -- Assumes nothing.
 use Prim.Native.Nat.{ℕ, _+_}
 use mathlib.Core.List.{List, [], _∷_}
-use Rattle.cell.specs.Table.{pick}
+use Rattle.recording.specs.Recording.{one}
 use Rattle.loom.specs.declared.Side.{Side}
 use Rattle.loom.specs.Sides.{sameSide}
 use Rattle.agreement.specs.Machine.{Event, posted, applied, answered}
@@ -33,7 +33,7 @@ unfoldable pub answersIn : Side → List Event → ℕ
 answersIn s [] = 0
 answersIn s (posted k t v ∷ log) = answersIn s log
 answersIn s (applied k t ∷ log) = answersIn s log
-answersIn s (answered k t v ∷ log) = pick (sameSide t s) 1 0 + answersIn s log
+answersIn s (answered k t v ∷ log) = one (sameSide t s) + answersIn s log
 
 unfoldable pub applicationsIn : List Event → ℕ
 applicationsIn [] = 0

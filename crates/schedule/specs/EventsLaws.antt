@@ -8,7 +8,7 @@ use mathlib.Core.List.{List, [], _∷_}
 use lib.Dec.{eqb}
 use lib.ListN.{length}
 use borrow.Author.Tests.{ltb-true}
-use Rattle.cell.specs.Table.{pick}
+use Rattle.recording.specs.Recording.{one}
 use Rattle.recording.specs.declared.Seat.{Seat}
 use Rattle.loom.specs.declared.Side.{Side}
 use Rattle.loom.specs.declared.Side.the-variants.{A, B}
@@ -20,6 +20,7 @@ use Rattle.loom.specs.Sides.{sameSide}
 use Rattle.loom.specs.Numbers.{saidNumber, saidApplied}
 use Rattle.agreement.specs.Machine.{Event, posted, applied, answered, withPost, withSaid}
 use Rattle.agreement.specs.Agreed.{Had}
+use Rattle.agreement.specs.Teams.{same-side}
 use Rattle.agreement.specs.LogLaws.{had-latest, had-still}
 use Rattle.group.specs.declared.Group.{Group}
 use Rattle.group.specs.Group.{loomAt}
@@ -59,26 +60,26 @@ applications-posted k t v (Bound x) log = refl
 applications-posted k t v (Answered x) log = refl
 
 -- An answer is marked with its side.
-answer-marked : (s t : Side) (v : ℕ) → pick (sameSide t s) 1 0 ≡ pick (eqb (saidNumber (Answer t v)) (answerMark s)) 1 0
+answer-marked : (s t : Side) (v : ℕ) → one (sameSide t s) ≡ one (eqb (saidNumber (Answer t v)) (answerMark s))
 answer-marked A A v = refl
 answer-marked A B v = refl
 answer-marked B A v = refl
 answer-marked B B v = refl
 
 -- Whoever says nothing, or applies, is not marked with a side.
-unmarked : (s : Side) → pick (eqb 0 (answerMark s)) 1 0 ≡ 0
+unmarked : (s : Side) → one (eqb 0 (answerMark s)) ≡ 0
 unmarked A = refl
 unmarked B = refl
 
 answers-said : (s : Side) (k : ℕ) (t : Side) (said : Said) (log : List Event) →
-    answersIn s (withSaid k t said log) ≡ pick (eqb (saidNumber said) (answerMark s)) 1 0 + answersIn s log
+    answersIn s (withSaid k t said log) ≡ one (eqb (saidNumber said) (answerMark s)) + answersIn s log
 unfolding answersIn withSaid
 answers-said s k t Nothing log = omega (arith, unmarked s)
 answers-said s k t Application log = omega (arith, unmarked s)
 answers-said s k t (Answer x v) log = ap (λ n. n + answersIn s log) (answer-marked s x v)
 
 applications-said : (k : ℕ) (t : Side) (said : Said) (log : List Event) →
-    applicationsIn (withSaid k t said log) ≡ pick (eqb (saidApplied said) 1) 1 0 + applicationsIn log
+    applicationsIn (withSaid k t said log) ≡ one (eqb (saidApplied said) 1) + applicationsIn log
 unfolding applicationsIn withSaid
 applications-said k t Nothing log = omega arith
 applications-said k t Application log = refl
@@ -91,12 +92,6 @@ HadAnswer s log = (k : ℕ) × (v : ℕ) × Had (answered k s v) log
 still-had : (s : Side) (d : Event) (log : List Event) → HadAnswer s log → HadAnswer s (d ∷ log)
 still-had s d log (k, v, had) = (k, v, had-still (answered k s v) d log had)
 
-one-side : (t s : Side) → sameSide t s ≡ true → t ≡ s
-one-side A A same = refl
-one-side A B same = let z : A ≡ B = cc in z
-one-side B A same = let z : B ≡ A = cc in z
-one-side B B same = refl
-
 -- Where answers are counted, one is in the log.
 pub counted-is-had : (s : Side) (log : List Event) → 1 ≤ answersIn s log → HadAnswer s log
 unfolding answersIn
@@ -105,8 +100,8 @@ counted-is-had s (posted k t v ∷ log) some = still-had s (posted k t v) log (c
 counted-is-had s (applied k t ∷ log) some = still-had s (applied k t) log (counted-is-had s log some)
 counted-is-had s (answered k t v ∷ log) some = by-test (counted-is-had s log) (sameSide t s) refl some
   where
-    by-test : (1 ≤ answersIn s log → HadAnswer s log) → (b : Bool) → sameSide t s ≡ b → 1 ≤ pick b 1 0 + answersIn s log → HadAnswer s (answered k t v ∷ log)
-    by-test earlier true same some = (k, v, rw (one-side t s same) (had-latest (answered k s v) log))
+    by-test : (1 ≤ answersIn s log → HadAnswer s log) → (b : Bool) → sameSide t s ≡ b → 1 ≤ one b + answersIn s log → HadAnswer s (answered k t v ∷ log)
+    by-test earlier true same some = (k, v, rw (same-side t s same) (had-latest (answered k s v) log))
     by-test earlier false same some = still-had s (answered k t v) log (earlier (omega arith))
 
 module _ (table : List ℕ) (states operations : ℕ) where
@@ -143,7 +138,7 @@ module _ (table : List ℕ) (states operations : ℕ) where
   module _ (looms : List Seat) (good : WellFormed table states operations looms) where
     -- An act adds to the log's answers of a side what its mark says, and to its applications what it applied.
     answers-next : (s : Side) (h : History) → Fits states looms (h .group) → (act : Act) → isNamed (length looms) act ≡ true →
-        answersIn s (after act h .log) ≡ pick (eqb (actedOf table states operations (h .group) act .mark) (answerMark s)) 1 0 + answersIn s (h .log)
+        answersIn s (after act h .log) ≡ one (eqb (actedOf table states operations (h .group) act .mark) (answerMark s)) + answersIn s (h .log)
     unfolding actedOf actedOn noted markOf
     answers-next s h fits (Step j) named = by-place (hasAnswered (loomAt (h .group) j .place)) refl
       where
@@ -152,24 +147,24 @@ module _ (table : List ℕ) (states operations : ℕ) where
 
         by-place : (b : Bool) → hasAnswered (loomAt (h .group) j .place) ≡ b →
             answersIn s (noted j (loomAt (h .group) j) (stepOf table states operations (h .group) j) (h .log))
-            ≡ pick (eqb (markOf (stepOf table states operations (h .group) j .code) (stepOf table states operations (h .group) j .said)) (answerMark s)) 1 0
+            ≡ one (eqb (markOf (stepOf table states operations (h .group) j .code) (stepOf table states operations (h .group) j .said)) (answerMark s))
             + answersIn s (h .log)
         by-place true done = rw (step-of-answered table states operations looms good (h .group) fits j within done) (by-side s)
           where
-            by-side : (s : Side) → answersIn s (h .log) ≡ pick (eqb 3 (answerMark s)) 1 0 + answersIn s (h .log)
+            by-side : (s : Side) → answersIn s (h .log) ≡ one (eqb 3 (answerMark s)) + answersIn s (h .log)
             by-side A = omega arith
             by-side B = omega arith
         by-place false going =
             rw (step-of-unanswered table states operations looms good (h .group) fits j within going)
             (answers-said s j (loomAt (h .group) j .side) (turnIn table states (h .group) j .said) _
-            ∙ ap (λ n. pick (eqb (saidNumber (turnIn table states (h .group) j .said)) (answerMark s)) 1 0 + n)
+            ∙ ap (λ n. one (eqb (saidNumber (turnIn table states (h .group) j .said)) (answerMark s)) + n)
             (answers-posted s j (loomAt (h .group) j .side) _ (loomAt (h .group) j .place) (h .log)))
     answers-next s h fits (Restart j) named = omega (arith, unmarked s)
     answers-next s h fits RestartAll named = omega (arith, unmarked s)
     answers-next s h fits Unknown named = omega (arith, unmarked s)
 
     applications-next : (h : History) → Fits states looms (h .group) → (act : Act) → isNamed (length looms) act ≡ true →
-        applicationsIn (after act h .log) ≡ pick (actedOf table states operations (h .group) act .applied) 1 0 + applicationsIn (h .log)
+        applicationsIn (after act h .log) ≡ one (actedOf table states operations (h .group) act .applied) + applicationsIn (h .log)
     unfolding actedOf actedOn noted
     applications-next h fits (Step j) named = by-place (hasAnswered (loomAt (h .group) j .place)) refl
       where
@@ -178,12 +173,12 @@ module _ (table : List ℕ) (states operations : ℕ) where
 
         by-place : (b : Bool) → hasAnswered (loomAt (h .group) j .place) ≡ b →
             applicationsIn (noted j (loomAt (h .group) j) (stepOf table states operations (h .group) j) (h .log))
-            ≡ pick (eqb (saidApplied (stepOf table states operations (h .group) j .said)) 1) 1 0 + applicationsIn (h .log)
+            ≡ one (eqb (saidApplied (stepOf table states operations (h .group) j .said)) 1) + applicationsIn (h .log)
         by-place true done = rw (step-of-answered table states operations looms good (h .group) fits j within done) (omega arith)
         by-place false going =
             rw (step-of-unanswered table states operations looms good (h .group) fits j within going)
             (applications-said j (loomAt (h .group) j .side) (turnIn table states (h .group) j .said) _
-            ∙ ap (λ n. pick (eqb (saidApplied (turnIn table states (h .group) j .said)) 1) 1 0 + n)
+            ∙ ap (λ n. one (eqb (saidApplied (turnIn table states (h .group) j .said)) 1) + n)
             (applications-posted j (loomAt (h .group) j .side) _ (loomAt (h .group) j .place) (h .log)))
     applications-next h fits (Restart j) named = omega arith
     applications-next h fits RestartAll named = omega arith

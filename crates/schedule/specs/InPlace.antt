@@ -1,10 +1,10 @@
 -- A run's acts as the code takes them: what is counted, apart from the group, and a step by what the looms go by from the first.
 -- Assumes nothing.
 use Prim.Native.Nat.{ℕ, _+_, max}
-use mathlib.Core.Bool.{Bool, false}
+use mathlib.Core.Bool.{Bool, false, cond, _||_}
 use lib.Dec.{eqb, leb, ltb}
 use Rattle.cell.specs.Limits.{edition}
-use Rattle.cell.specs.Table.{either, pick}
+use Rattle.recording.specs.Recording.{one}
 use Rattle.loom.specs.Numbers.{saidApplied}
 use Rattle.group.specs.declared.Group.{Group}
 use Rattle.group.specs.declared.Outcome.{Outcome}
@@ -19,7 +19,7 @@ use Rattle.schedule.specs.Played.{markOf}
 
 -- What a step is counted by in a run; a refused step gives no count. What isn't a step counts for nothing.
 abbrev pub noteOf : Outcome → Noted
-noteOf r = record { mark = markOf (r .code) (r .said); applied = eqb (saidApplied (r .said)) 1; steps = pick (eqb (r .code) 0) (r .loom .steps) 0 }
+noteOf r = record { mark = markOf (r .code) (r .said); applied = eqb (saidApplied (r .said)) 1; steps = cond (eqb (r .code) 0) (r .loom .steps) 0 }
 
 abbrev pub noNote : Noted
 noNote = record { mark = 0; applied = false; steps = 0 }
@@ -30,7 +30,7 @@ actedBy n g = record { mark = n .mark; applied = n .applied; steps = n .steps; g
 
 -- Whether an entry is no step of a loom of a group of so many, or these are beyond the limit.
 abbrev pub noStep : ℕ → ℕ → Bool
-noStep count entry = either (ltb (edition .looms) count) (leb count entry)
+noStep count entry = ltb (edition .looms) count || leb count entry
 
 -- The group after an act that is no step of one of its looms.
 abbrev pub restartedBy : Group → Act → Group
@@ -43,9 +43,9 @@ restartedBy g Unknown = g
 unfoldable pub tallied : Tally → Noted → Tally
 tallied t x = record {
   entries = t .entries + 1;
-  a = t .a + pick (eqb (x .mark) 1) 1 0;
-  b = t .b + pick (eqb (x .mark) 2) 1 0;
-  applied = t .applied + pick (x .applied) 1 0;
+  a = t .a + one (eqb (x .mark) 1);
+  b = t .b + one (eqb (x .mark) 2);
+  applied = t .applied + one (x .applied);
   longest = max (t .longest) (x .steps);
 }
 

@@ -3,7 +3,7 @@
 use Prim.Native.Nat.{ℕ, zero, suc, _-_, _≤_, _<_}
 use native.Mathlib.Omega.{arith}
 use mathlib.Core.Path.{_≡_, refl, sym, ap, _∙_}
-use mathlib.Core.Bool.{Bool, true, false}
+use mathlib.Core.Bool.{Bool, true, false, cond}
 use mathlib.Core.List.{List, [], _∷_}
 use lib.Dec.{eqb, ltb}
 use lib.ListN.{length, getD, set, take}
@@ -18,14 +18,14 @@ use Rattle.group.specs.declared.Group.{Group}
 use Rattle.group.specs.declared.Outcome.{Outcome}
 use Rattle.group.specs.Group.{emptyLoom, loomAt, numberOf, countOf, leadOf, groupRules, withLoom, withShared, noLoom}
 use Rattle.group.specs.GroupLaws.{has-loom}
-use Rattle.group.specs.Step.{isUnfit, hasAnswered, unmoved, taken, pickOutcome, pickStepped, stepOnOf, settled, refused, stepOf}
+use Rattle.group.specs.Step.{isUnfit, hasAnswered, unmoved, taken, stepOnOf, settled, refused, stepOf}
 use Rattle.demands.specs.Kept.{Kept}
 use Rattle.demands.specs.KeptLaws.{kept-itself, kept-by-step, kept-by-restart, kept-by-restart-of-all}
 use Rattle.schedule.specs.declared.Act.{Act}
 use Rattle.schedule.specs.declared.Act.the-variants.{Step, Restart, RestartAll, Unknown}
 use Rattle.schedule.specs.declared.Noted.{Noted}
 use Rattle.schedule.specs.declared.Tally.{Tally}
-use Rattle.schedule.specs.Acts.{firstRestart, entryOfAll, pickAct, actOf}
+use Rattle.schedule.specs.Acts.{firstRestart, entryOfAll, actOf}
 use Rattle.schedule.specs.Played.{markOf, afterStep, withActed, actedOf}
 use Rattle.schedule.specs.InPlace.{noteOf, noNote, actedBy, restartedBy, tallied, ranBy}
 
@@ -78,8 +78,8 @@ module _ (table : List ℕ) (states operations : ℕ) (g : Group) where
     where
       out : Bool → Bool → Outcome
       out s t =
-          pickOutcome s (unmoved 32 (g .shared) (loomAt g k))
-          (pickOutcome t (unmoved 31 (g .shared) (loomAt g k)) (taken (turnedOf R v (entryOf table states (loomAt g k .operation)) (g .shared) (loomAt g k))))
+          cond s (unmoved 32 (g .shared) (loomAt g k))
+          (cond t (unmoved 31 (g .shared) (loomAt g k)) (taken (turnedOf R v (entryOf table states (loomAt g k .operation)) (g .shared) (loomAt g k))))
 
       by-tests : (s t : Bool) →
           afterStep (settled g k (out s t)) ≡ actedBy (noteOf (out s t)) (withLoom (withShared g (out s t .shared)) k (out s t .loom))
@@ -103,8 +103,8 @@ module _ (table : List ℕ) (states operations : ℕ) (g : Group) where
   restart-in-place e none = by-tests (ltb e firstRestart) (ltb e entryOfAll) (eqb e entryOfAll)
     where
       by-tests : (s t u : Bool) →
-          actedBy noNote (restartedBy g (pickAct s (Step e) (pickAct t (Restart (e - firstRestart)) (pickAct u RestartAll Unknown))))
-          ≡ actedOf table states operations g (pickAct s (Step e) (pickAct t (Restart (e - firstRestart)) (pickAct u RestartAll Unknown)))
+          actedBy noNote (restartedBy g (cond s (Step e) (cond t (Restart (e - firstRestart)) (cond u RestartAll Unknown))))
+          ≡ actedOf table states operations g (cond s (Step e) (cond t (Restart (e - firstRestart)) (cond u RestartAll Unknown)))
       by-tests true t u = rw none
       by-tests false true u = refl
       by-tests false false true = refl

@@ -1,10 +1,10 @@
 -- A run as a fold of a group's own step and restarts over a schedule: document 01, "Schedules".
 -- Assumes nothing.
 use Prim.Native.Nat.{ℕ, _+_, max}
-use mathlib.Core.Bool.{false}
+use mathlib.Core.Bool.{false, cond}
 use mathlib.Core.List.{List, [], _∷_}
 use lib.Dec.{eqb}
-use Rattle.cell.specs.Table.{pick}
+use Rattle.recording.specs.Recording.{one}
 use Rattle.loom.specs.declared.Said.{Said}
 use Rattle.loom.specs.Numbers.{saidNumber, saidApplied}
 use Rattle.group.specs.declared.Group.{Group}
@@ -18,7 +18,7 @@ use Rattle.schedule.specs.Acts.{actOf}
 
 -- The mark of a step: "1 for an answer with side A, 2 with side B, 3 for a step of a loom that had already answered [...], else 0."
 unfoldable pub markOf : ℕ → Said → ℕ
-markOf code said = pick (eqb code 31) 3 (saidNumber said)
+markOf code said = cond (eqb code 31) 3 (saidNumber said)
 
 -- What a step comes to in a run; and a restart, which is marked 0 and applies nothing.
 abbrev pub afterStep : Stepped → Acted
@@ -38,9 +38,9 @@ withActed r x = record {
   code = r .code;
   group = x .group;
   entries = r .entries + 1;
-  a = r .a + pick (eqb (x .mark) 1) 1 0;
-  b = r .b + pick (eqb (x .mark) 2) 1 0;
-  applied = r .applied + pick (x .applied) 1 0;
+  a = r .a + one (eqb (x .mark) 1);
+  b = r .b + one (eqb (x .mark) 2);
+  applied = r .applied + one (x .applied);
   longest = max (r .longest) (x .steps);
 }
 

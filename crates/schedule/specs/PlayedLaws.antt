@@ -11,7 +11,7 @@ use lib.Seq.{drop-cons, drop-drop, take-suc-set, append-snoc, drop-set-lt}
 use Rattle.group.specs.declared.Group.{Group}
 use Rattle.group.specs.declared.Stepped.{Stepped}
 use Rattle.group.specs.Step.{stepOf, restartOf, restartAllOf}
-use Rattle.group.specs.GroupLaws.{one-at-most}
+use Rattle.recording.specs.OrdersLaws.{one-at-most}
 use Rattle.schedule.specs.declared.Act.{Act}
 use Rattle.schedule.specs.declared.Act.the-variants.{Step, Restart, RestartAll, Unknown}
 use Rattle.schedule.specs.declared.Acted.{Acted}

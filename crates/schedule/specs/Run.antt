@@ -1,13 +1,11 @@
 -- A run with its refusals: document 01, "Schedules" and "Codes and their order".
 -- Assumes nothing.
 use Prim.Native.Nat.{ℕ}
-use mathlib.Core.Bool.{Bool, true, false}
+use mathlib.Core.Bool.{cond}
 use mathlib.Core.List.{List, _++_}
 use lib.Dec.{ltb, eqb}
 use lib.ListN.{length, drop}
 use Rattle.cell.specs.Limits.{edition}
-use Rattle.cell.specs.Table.{pick}
-use Rattle.recording.specs.Check.{pickWords}
 use Rattle.recording.specs.declared.Certificate.{Certificate}
 use Rattle.group.specs.declared.Numbers.{Numbers}
 use Rattle.group.specs.declared.Opened.{Opened}
@@ -20,30 +18,26 @@ use Rattle.schedule.specs.Played.{begun, playedOf, marksOf}
 -- buffer's length.
 unfoldable pub refusalOf : ℕ → List ℕ → ℕ → ℕ
 refusalOf count schedule room =
-    pick (ltb (edition .entries) (length schedule)) 12 (pick (allNamed count schedule) (pick (ltb room (length schedule)) 40 0) 13)
+    cond (ltb (edition .entries) (length schedule)) 12 (cond (allNamed count schedule) (cond (ltb room (length schedule)) 40 0) 13)
 
 -- "Running: opening, 12, 13, then 40 for the buffer."
 unfoldable pub codeOf : Opened → List ℕ → ℕ → ℕ
-codeOf opened schedule room = pick (eqb (opened .code) 0) (refusalOf (opened .group .count) schedule room) (opened .code)
+codeOf opened schedule room = cond (eqb (opened .code) 0) (refusalOf (opened .group .count) schedule room) (opened .code)
 
 -- "A refused opening or run returns zeros and no looms."
 abbrev pub unrun : ℕ → Ran
 unrun code = record { code = code; group = noGroup; entries = 0; a = 0; b = 0; applied = 0; longest = 0 }
 
-abbrev pub pickRan : Bool → Ran → Ran → Ran
-pickRan true r s = r
-pickRan false r s = s
-
 module _ (table : List ℕ) (states operations : ℕ) where
   -- What a run comes to, from what the opening came to.
   unfoldable pub ranOf : Opened → List ℕ → ℕ → Ran
   ranOf opened schedule room =
-      pickRan (eqb (codeOf opened schedule room) 0) (playedOf table states operations (begun (opened .group)) schedule) (unrun (codeOf opened schedule room))
+      cond (eqb (codeOf opened schedule room) 0) (playedOf table states operations (begun (opened .group)) schedule) (unrun (codeOf opened schedule room))
 
   -- The buffer afterwards: "one byte an entry [...]. Later bytes stay." "A refusal writes nothing to lent memory."
   unfoldable pub markedOf : Opened → List ℕ → List ℕ → List ℕ
   markedOf opened schedule marks =
-      pickWords (eqb (codeOf opened schedule (length marks)) 0)
+      cond (eqb (codeOf opened schedule (length marks)) 0)
       (marksOf table states operations (opened .group) schedule ++ drop (length schedule) marks)
       marks
 

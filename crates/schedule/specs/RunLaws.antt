@@ -3,17 +3,16 @@
 use Prim.Native.Nat.{ℕ, _≤_, _<_}
 use native.Mathlib.Omega.{arith}
 use mathlib.Core.Path.{_≡_, refl, sym}
-use mathlib.Core.Bool.{Bool, true, false}
+use mathlib.Core.Bool.{Bool, true, false, cond}
 use mathlib.Core.List.{List, _++_}
 use lib.Dec.{ltb, eqb}
 use lib.ListN.{length, drop}
 use borrow.Author.Tests.{lt-ltb, le-ltb, eq-eqb, ne-eqb, ltb-false, eqb-true, eqb-false}
 use Rattle.cell.specs.Limits.{edition}
-use Rattle.cell.specs.Table.{pick}
 use Rattle.group.specs.declared.Opened.{Opened}
 use Rattle.schedule.specs.Acts.{allNamed}
 use Rattle.schedule.specs.Played.{begun, playedOf, marksOf}
-use Rattle.schedule.specs.Run.{refusalOf, codeOf, unrun, pickRan, ranOf, markedOf}
+use Rattle.schedule.specs.Run.{refusalOf, codeOf, unrun, ranOf, markedOf}
 
 -- What code 0 says of a schedule, for a group of so many looms and a buffer of that length.
 pub record Playable (count : ℕ) (schedule : List ℕ) (room : ℕ) : Type 0 where
@@ -47,7 +46,7 @@ module _ (count : ℕ) (schedule : List ℕ) (room : ℕ) where
       go : (l : Bool) → ltb (edition .entries) (length schedule) ≡ l →
           (n : Bool) → allNamed count schedule ≡ n →
           (r : Bool) → ltb room (length schedule) ≡ r →
-          pick l 12 (pick n (pick r 40 0) 13) ≡ 0 → Playable count schedule room
+          cond {A = ℕ} l 12 (cond n (cond r 40 0) 13) ≡ 0 → Playable count schedule room
       go true long n named r rest none = absurd (omega arith)
       go false long false named r rest none = absurd (omega arith)
       go false long true named true rest none = absurd (omega arith)
@@ -68,7 +67,7 @@ module _ (opened : Opened) (schedule : List ℕ) (room : ℕ) where
   unfolding codeOf
   code-says = go (eqb (opened .code) 0) refl
     where
-      go : (b : Bool) → eqb (opened .code) 0 ≡ b → pick b (refusalOf (opened .group .count) schedule room) (opened .code) ≡ 0 →
+      go : (b : Bool) → eqb (opened .code) 0 ≡ b → cond b (refusalOf (opened .group .count) schedule room) (opened .code) ≡ 0 →
           (opened .code ≡ 0) × Playable (opened .group .count) schedule room
       go true zero none = (eqb-true _ _ zero, playable (opened .group .count) schedule room none)
       go false other none = let same : eqb (opened .code) 0 ≡ true = eq-eqb _ _ none in let z : _≡_ {A = ℕ} 0 1 = cc in absurd (omega arith)
@@ -95,7 +94,7 @@ unfolding ranOf
 unrefused table states operations opened schedule room = by-test (eqb (codeOf opened schedule room) 0) refl
   where
     by-test : (b : Bool) → eqb (codeOf opened schedule room) 0 ≡ b →
-        pickRan b (playedOf table states operations (begun (opened .group)) schedule) (unrun (codeOf opened schedule room)) .code ≡ 0 →
+        cond b (playedOf table states operations (begun (opened .group)) schedule) (unrun (codeOf opened schedule room)) .code ≡ 0 →
         Unrefused table states operations opened schedule room
     by-test true zero none =
         let code : codeOf opened schedule room ≡ 0 = eqb-true _ _ zero in

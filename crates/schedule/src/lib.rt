@@ -1,11 +1,12 @@
 // A run of a schedule: a group opened afresh, each entry taken in order, one mark an entry.
 ghost use mathlib.Core.Path.{_≡_};
+ghost use mathlib.Core.Bool.{cond};
 ghost use mathlib.Core.List.{_++_};
 ghost use Prim.Native.Nat.{_<_, _≤_, max};
 ghost use lib.Dec.{eqb};
 ghost use lib.ListN.{length, drop};
 ghost use Rattle.cell.specs.Limits.{edition};
-ghost use Rattle.cell.specs.Table.{pick};
+ghost use Rattle.recording.specs.Recording.{one};
 ghost use Rattle.recording.specs.Check.{areaOf};
 ghost use Rattle.group.specs.Open.{pieces, noGroup};
 ghost use Rattle.schedule.specs.Acts.{actOf, isNamed, allNamed};
@@ -243,7 +244,7 @@ fn mark_of(code: u8, said: Said) -> u8
 
 // The step count that a step gives: the loom's, and none where it was refused.
 fn count_given(code: u8, steps: u8) -> u8
-    ensures { λ r. ⌜ r ≡ pick (eqb code 0) steps 0 ⌝ }
+    ensures { λ r. ⌜ r ≡ cond (eqb code 0) steps 0 ⌝ }
 {
     if code == 0 { steps } else { 0 }
 }
@@ -299,7 +300,7 @@ fn restarted(group: Group, act: Act) -> Group
 
 // 1 where the test holds, else 0.
 fn one_if(test: bool) -> usize
-    ensures { λ r. ⌜ r ≡ pick test 1 0 ⌝ }
+    ensures { λ r. ⌜ r ≡ one test ⌝ }
 {
     if test { 1 } else { 0 }
 }

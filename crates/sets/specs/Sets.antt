@@ -3,7 +3,7 @@
 -- Assumes nothing.
 use Prim.Native.Nat.{ℕ, zero, suc, _/_, _%_, _^_, min, max}
 use mathlib.Core.Path.{_≡_}
-use mathlib.Core.Bool.{Bool, true, false}
+use mathlib.Core.Bool.{Bool, cond, _&&_}
 use mathlib.Core.List.{List, [], _∷_, _++_}
 use lib.Dec.{eqb, ltb}
 use lib.ListN.{length, getD}
@@ -50,16 +50,6 @@ Union a b r = (q : ℕ) → bit r q ≡ max (bit a q) (bit b q)
 unfoldable pub Common : ℕ → ℕ → ℕ → Type 0
 Common a b r = (q : ℕ) → bit r q ≡ min (bit a q) (bit b q)
 
--- Both tests hold.
-abbrev pub both : Bool → Bool → Bool
-both true t = t
-both false t = false
-
--- 1 where the test holds, else the digit d.
-abbrev pub oneOr : Bool → ℕ → ℕ
-oneOr true d = 1
-oneOr false d = d
-
 -- r holds the states of w and, where q is below k, q. A state beyond the k digits of a word adds nothing.
 unfoldable pub Inserted : ℕ → ℕ → ℕ → ℕ → Type 0
-Inserted k w q r = (p : ℕ) → bit r p ≡ oneOr (both (ltb q k) (eqb p q)) (bit w p)
+Inserted k w q r = (p : ℕ) → bit r p ≡ cond (ltb q k && eqb p q) 1 (bit w p)

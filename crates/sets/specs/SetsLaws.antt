@@ -3,7 +3,7 @@
 use Prim.Native.Nat.{ℕ, zero, suc, _+_, _-_, _*_, _/_, _%_, _^_, _≤_, _<_, min, max, zero-le, suc-le-suc}
 use mathlib.Core.Path.{_≡_, refl, sym, ap, ap₂, subst, _∙_}
 use mathlib.Core.Logic.{_⊎_, inl, inr, ⊎-elim}
-use mathlib.Core.Bool.{Bool, true, false}
+use mathlib.Core.Bool.{Bool, true, false, cond, _&&_}
 use mathlib.Core.List.{List, [], _∷_, _++_}
 use native.Mathlib.Nat.{zero-div, mod-lt, div-eq-of-lt, div-one, zero-lt-suc, lt-of-lt-of-le, div-add-mod', le-of-suc-le-suc, eq-zero-or-pos, mul-div-cancel, add-comm, zero-add, mod-mod, mul-mod-left, div-self, mul-add-mod-self-right, pow-suc, pow-succ', le-refl, mul-comm, sub-add-cancel, mod-eq-of-lt, div-div-eq-div-mul, not-suc-le-zero}
 use native.Mathlib.Numerals.{add-one}
@@ -13,7 +13,7 @@ use lib.Pow.{pow-pos, pow-mono, pow-add, shr-shr, shl-shr, split, shr-lt}
 use lib.Bits.{bitOr, bitAnd, or-shr, and-shr, or-step, and-step, or-lt}
 use lib.Dec.{eqb, ltb}
 use borrow.Author.Tests.{eqb-true, eqb-false, lt-ltb, le-ltb}
-use Rattle.sets.specs.Sets.{bit, both, oneOr, Union, Common, Inserted}
+use Rattle.sets.specs.Sets.{bit, Union, Common, Inserted}
 
 -- A digit is 0 or 1.
 pub bit-small : (w q : ℕ) → bit w q < 2
@@ -133,7 +133,7 @@ unfolding Inserted
 or-single-inserts k w q within p =
     bit-or w (2 ^ q) p ∙ go (eqb p q) refl
   where
-    go : (t : Bool) → eqb p q ≡ t → max (bit w p) (bit (2 ^ q) p) ≡ oneOr (both (ltb q k) (eqb p q)) (bit w p)
+    go : (t : Bool) → eqb p q ≡ t → max (bit w p) (bit (2 ^ q) p) ≡ cond (ltb q k && eqb p q) 1 (bit w p)
     go true e =
         let same : p ≡ q = eqb-true p q e in
         simp (lt-ltb q k within, e) (omega (arith, bit-small w p, ap (bit (2 ^ q)) same ∙ bit-single-same q))

@@ -1,26 +1,12 @@
 -- Positions, words and fields of an XDR file: document 01, "The order file" and "Codes and their order".
 -- Assumes nothing.
 use Prim.Native.Nat.{ℕ, zero, suc, _+_, _*_}
-use mathlib.Core.Bool.{Bool, true, false}
+use mathlib.Core.Bool.{Bool, cond, _&&_}
 use mathlib.Core.List.{List}
 use lib.Dec.{leb, ltb}
 use lib.ListN.{length, getD}
 use Rattle.xdr.specs.declared.Field.{Field}
 use Rattle.xdr.specs.declared.Field.the-variants.{Is, Not}
-
--- The first of two where the test holds, else the second.
-abbrev pub pickField : Bool → Field → Field → Field
-pickField true f g = f
-pickField false f g = g
-
-abbrev pub pickNumber : Bool → ℕ → ℕ → ℕ
-pickNumber true m n = m
-pickNumber false m n = n
-
--- Both tests hold.
-abbrev pub both : Bool → Bool → Bool
-both true t = t
-both false t = false
 
 -- "All words are XDR unsigned ints, big-endian."
 abbrev pub joined : ℕ → ℕ → ℕ → ℕ → ℕ
@@ -32,16 +18,16 @@ wordFits s p = leb (p + 4) (length s)
 
 -- The word at position p; 0 where the file ends before it does.
 unfoldable pub wordAt : List ℕ → ℕ → ℕ
-wordAt s p = pickNumber (wordFits s p) (joined (getD s p 0) (getD s (p + 1) 0) (getD s (p + 2) 0) (getD s (p + 3) 0)) 0
+wordAt s p = cond (wordFits s p) (joined (getD s p 0) (getD s (p + 1) 0) (getD s (p + 2) 0) (getD s (p + 3) 0)) 0
 
 -- A value from low to below end.
 unfoldable pub within : ℕ → ℕ → ℕ → Bool
-within low end v = both (leb low v) (ltb v end)
+within low end v = leb low v && ltb v end
 
 -- "1, the file ends before a field does", and "each 1 before its value": whether the file reaches to the field's end, whether the field
 -- passes its test, what it gives, the code of its own refusal. "The place is the byte where the refused field begins."
 abbrev pub judged : Bool → Bool → ℕ → ℕ → ℕ → Field
-judged reaches passes v code p = pickField reaches (pickField passes (Is v) (Not code p)) (Not 1 p)
+judged reaches passes v code p = cond reaches (cond passes (Is v) (Not code p)) (Not 1 p)
 
 -- The word at position p as a field whose value has to pass a test.
 unfoldable pub fieldAt : (ℕ → Bool) → ℕ → List ℕ → ℕ → Field
@@ -59,4 +45,4 @@ run item width (suc k) p = andThen (item p) (run item width k (p + width))
 
 -- The file ends at p, or the first extra byte is refused.
 unfoldable pub endAt : ℕ → List ℕ → ℕ → Field
-endAt code s p = pickField (leb (length s) p) (Is p) (Not code p)
+endAt code s p = cond (leb (length s) p) (Is p) (Not code p)

@@ -5,21 +5,21 @@ use native.Mathlib.Nat.{zero-mul, suc-mul, add-zero, add-assoc}
 use native.Mathlib.Numerals.{sub-one}
 use native.Mathlib.Omega.{arith}
 use mathlib.Core.Path.{_≡_, refl, sym, ap, _∙_}
-use mathlib.Core.Bool.{Bool, true, false}
+use mathlib.Core.Bool.{Bool, true, false, _&&_}
 use mathlib.Core.List.{List}
 use lib.Dec.{leb, ltb}
 use lib.ListN.{length, getD}
 use borrow.Author.Tests.{leb-true, ltb-true, le-leb, lt-leb, lt-ltb, le-ltb}
 use Rattle.xdr.specs.declared.Field.{Field}
 use Rattle.xdr.specs.declared.Field.the-variants.{Is, Not}
-use Rattle.xdr.specs.Field.{both, joined, wordFits, wordAt, within, judged, fieldAt, andThen, run, endAt}
+use Rattle.xdr.specs.Field.{joined, wordFits, wordAt, within, judged, fieldAt, andThen, run, endAt}
 
 -- Two tests that hold together hold each.
-pub both-left : (a b : Bool) → both a b ≡ true → a ≡ true
+pub both-left : (a b : Bool) → a && b ≡ true → a ≡ true
 both-left true b h = refl
 both-left false b h = h
 
-pub both-right : (a b : Bool) → both a b ≡ true → b ≡ true
+pub both-right : (a b : Bool) → a && b ≡ true → b ≡ true
 both-right true b h = h
 both-right false b h = let z : _≡_ {A = Bool} false true = h in cc
 

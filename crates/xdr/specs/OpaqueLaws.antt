@@ -4,14 +4,14 @@ use Prim.Native.Nat.{ℕ, zero, suc, _+_, _-_, _*_, _≤_, _<_}
 use native.Mathlib.Numerals.{sub-one, add-one}
 use native.Mathlib.Omega.{arith}
 use mathlib.Core.Path.{_≡_, refl, sym, ap, _∙_}
-use mathlib.Core.Bool.{Bool, true, false}
+use mathlib.Core.Bool.{Bool, true, false, _&&_}
 use mathlib.Core.List.{List, []}
 use lib.Dec.{leb}
 use lib.ListN.{length, getD, take, drop}
 use borrow.Author.Tests.{leb-true, leb-false, le-leb, lt-leb}
 use Rattle.xdr.specs.declared.Field.{Field}
 use Rattle.xdr.specs.declared.Field.the-variants.{Is, Not}
-use Rattle.xdr.specs.Field.{both, judged}
+use Rattle.xdr.specs.Field.{judged}
 use Rattle.xdr.specs.FieldLaws.{both-left, both-right, Taken, judged-takes, judged-refuses, judged-ends, judged-taken}
 use Rattle.xdr.specs.Opaque.{padOf, padded, all, partOf, opaqueAt}
 
@@ -30,7 +30,7 @@ unfolding all
 all-none ok s zero p h = refl
 all-none ok s (suc k) p h = absurd (omega arith)
 
-pub all-first : (ok : ℕ → Bool) (s : List ℕ) (n p : ℕ) → 0 < n → all ok s n p ≡ both (ok (getD s p 0)) (all ok s (n - 1) (p + 1))
+pub all-first : (ok : ℕ → Bool) (s : List ℕ) (n p : ℕ) → 0 < n → all ok s n p ≡ ok (getD s p 0) && all ok s (n - 1) (p + 1)
 unfolding all
 all-first ok s zero p h = absurd (omega arith)
 all-first ok s (suc k) p h = rw sub-one

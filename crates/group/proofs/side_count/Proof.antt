@@ -5,9 +5,10 @@ use native.Mathlib.Omega.{arith}
 use borrow.Author.Needs.{needs}
 use mathlib.Core.Path.{_≡_, refl, ap, _∙_}
 use lib.ListN.{getD, take, drop}
+use Rattle.recording.specs.OrdersLaws.{one-at-most}
 use Rattle.loom.specs.Sides.{sameSide}
 use Rattle.group.specs.Group.{emptyLoom, countOf}
-use Rattle.group.specs.GroupLaws.{count-from, count-past, one-at-most}
+use Rattle.group.specs.GroupLaws.{count-from, count-past}
 use Rattle.group.proofs.side_count.Statement.{statement}
 use Rattle.group.proofs.side_count.Tie as tie
 

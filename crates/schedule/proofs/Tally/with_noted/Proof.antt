@@ -2,7 +2,7 @@
 -- Assumes nothing.
 use native.Mathlib.Omega.{arith}
 use lib.Dec.{eqb}
-use Rattle.group.specs.GroupLaws.{one-at-most}
+use Rattle.recording.specs.OrdersLaws.{one-at-most}
 use Rattle.schedule.specs.InPlace.{tallied}
 use borrow.Author.Needs.{needs}
 use Rattle.schedule.proofs.Tally.with_noted.Statement.{statement}
