@@ -46,3 +46,13 @@ check-says table states operations c room past =
       size-of-B = laws.sizes-given table states operations c room past .1;
       members = laws.set-is-Q table states operations c room past;
     }
+
+-- Whatever the table, the certificate and the area's length: code 0 exactly when none of 2 to 9 and 40 applies and the certificate is
+-- recording.
+pub accepts-exactly : (table : List ℕ) (states operations : ℕ) (c : Certificate) (room : ℕ)
+    → (checkOf table states operations c room .code ≡ 0) ↔ ((faultOf table states operations c room .code ≡ 0) × RecordingOf table states c)
+accepts-exactly table states operations c room = (
+  λ code. let past = laws.past-faults table states operations c room code in
+      (past, laws.accepted table states operations c room past .0 code),
+  λ both. laws.accepted table states operations c room (both .0) .1 (both .1),
+)

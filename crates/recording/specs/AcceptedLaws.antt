@@ -4,6 +4,7 @@ use Prim.Native.Nat.{ℕ, _^_, _<_}
 use mathlib.Core.Path.{_≡_, refl, sym, ap, subst, _∙_}
 use mathlib.Core.Logic.{_↔_, _⊎_, inl, inr, ⊎-elim}
 use mathlib.Core.List.{List}
+use native.Mathlib.Decide.{ℕ-discrete}
 use native.Mathlib.Nat.{lt-of-lt-of-le}
 use lib.Bits.{bitAnd}
 use lib.Pow.{pow-mono}
@@ -13,7 +14,7 @@ use Rattle.recording.specs.declared.Certificate.{Certificate}
 use Rattle.recording.specs.declared.Judged.{Judged}
 use Rattle.recording.specs.AdmittedLaws.{Admitted, admitted, closed}
 use Rattle.recording.specs.Check.{loomsOf, faultOf, setBy, verdictOf, judgedOf, checkOf}
-use Rattle.recording.specs.CheckLaws.{judged-past}
+use Rattle.recording.specs.CheckLaws.{judged-refused, judged-past}
 use Rattle.recording.specs.Clauses.{InSetOf, SharedFirst, NoneShared, ReturnsTo, RecordingOf}
 use Rattle.recording.specs.Recording.{sideCount}
 use Rattle.recording.specs.SetLaws.{set-members, set-below}
@@ -159,3 +160,13 @@ module _ (table : List ℕ) (states operations : ℕ) (c : Certificate) (room : 
           ap codeOf verdict
           ∙ ap codeOf (when-recorded (c .start) ofA ofB setA setB (apart .1 (r .apart)) (clause 0 (sideCount 1 (loomsOf c)) .1 (r .start-and-A))
           (clause 1 (sideCount 0 (loomsOf c)) .1 (r .start-and-B)))
+
+-- Code 0 is given past 2 to 9 and 40 alone.
+pub past-faults : (table : List ℕ) (states operations : ℕ) (c : Certificate) (room : ℕ)
+    → checkOf table states operations c room .code ≡ 0 → faultOf table states operations c room .code ≡ 0
+unfolding checkOf
+past-faults table states operations c room code =
+    elim (ℕ-discrete (faultOf table states operations c room .code) 0) [
+      | yes past ↦ past
+      | no refused ↦ sym (ap codeOf (judged-refused table states operations c room refused)) ∙ code
+    ]

@@ -1,6 +1,8 @@
 pub mod Accepted
 pub mod AcceptedLaws
 pub mod AdmittedLaws
+pub mod AreaHolds
+pub mod AreaLaws
 pub mod CatalogueAccepted
 pub mod CatalogueOrders
 pub mod Check

@@ -15,8 +15,8 @@ use Rattle.recording.specs.declared.Seat.{Seat}
 use Rattle.recording.specs.OrdersLaws.{standing, standing-digits}
 use Rattle.recording.specs.Recording.{InSet}
 use Rattle.recording.specs.UnionLaws.{in-union, union-first, union-second, empty-has-none}
-use Rattle.recording.specs.Words.{unionOf, filled, setOf}
-use Rattle.recording.specs.WordsLaws.{wordAt, length-filled, filled-at, ReachedBy, Closed, word-sound, word-complete, word-below}
+use Rattle.recording.specs.Words.{ReachedBy, unionOf, filled, setOf}
+use Rattle.recording.specs.WordsLaws.{wordAt, length-filled, filled-at, Closed, word-sound, word-complete, word-below}
 
 -- ---- the union of a list of sets
 pub union-end : (set : ℕ) (ws : List ℕ) (w : ℕ) → unionOf set (ws ++ (w ∷ [])) ≡ bitOr (unionOf set ws) w
@@ -49,14 +49,14 @@ union-of-has set (w ∷ ws) (suc m) q within has = union-of-has (bitOr set w) ws
 module _ (next : ℕ → ℕ → ℕ) (looms : List Seat) (states start X : ℕ) (closed : Closed next looms states start) where
   -- Bit q of word m is set exactly when some order of exactly the looms in m, a loom of X first, reaches q.
   pub word-members : (m q : ℕ) → m < 2 ^ length looms
-      → (bit (wordAt next looms states start X m) q ≡ 1) ↔ ReachedBy next looms states start X m q
+      → (bit (wordAt next looms states start X m) q ≡ 1) ↔ ReachedBy next looms start X m q
   word-members m q small = (
     word-sound next looms states start X m q,
     λ by. subst (λ (p : ℕ). bit (wordAt next looms states start X m) p ≡ 1) (by .2)
         (word-complete next looms states start X closed m small (by .0) (by .1)),
   )
 
-  in-order : (m q : ℕ) → m < 2 ^ length looms → ReachedBy next looms states start X m q → InSet next looms start X q
+  in-order : (m q : ℕ) → m < 2 ^ length looms → ReachedBy next looms start X m q → InSet next looms start X q
   in-order m q small by = (
     by .0,
     record {
@@ -68,7 +68,7 @@ module _ (next : ℕ → ℕ → ℕ) (looms : List Seat) (states start X : ℕ)
   )
 
   of-order : (q : ℕ) → InSet next looms start X q
-      → (m : ℕ) × (m < 2 ^ length looms) × ReachedBy next looms states start X m q
+      → (m : ℕ) × (m < 2 ^ length looms) × ReachedBy next looms start X m q
   of-order q by =
       let us = by .0 in
       let digits = standing-digits us (by .1 .each-once) in (

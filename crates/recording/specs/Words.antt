@@ -3,14 +3,15 @@
 -- Over any operations, any list of looms and any number of states.
 -- Assumes nothing.
 use Prim.Native.Nat.{ℕ, zero, suc, _-_, _^_}
+use mathlib.Core.Path.{_≡_}
 use mathlib.Core.Bool.{Bool, true, false, cond}
 use mathlib.Core.List.{List, [], _∷_, _++_}
 use lib.Bits.{bitOr}
 use lib.Dec.{eqb}
 use lib.ListN.{length, getD}
-use Rattle.sets.specs.Sets.{hasOf}
+use Rattle.sets.specs.Sets.{bit, hasOf}
 use Rattle.recording.specs.declared.Seat.{Seat}
-use Rattle.recording.specs.Recording.{sideAt, operationAt}
+use Rattle.recording.specs.Recording.{sideAt, operationAt, times, FirstIs, reached}
 
 -- The set with state q put in, where the test holds.
 abbrev pub withIf : Bool → ℕ → ℕ → ℕ
@@ -58,3 +59,11 @@ module _ (next : ℕ → ℕ → ℕ) (looms : List Seat) (states start X : ℕ)
   -- The set of X: the union of its words.
   unfoldable pub setOf : ℕ
   setOf = unionOf 0 (filled (2 ^ length looms))
+
+-- What word m is to hold: "the states reached by applying exactly the looms whose bits are in m, each once, [a loom of X] first".
+pub record OrderOf (looms : List Seat) (X m : ℕ) (us : List ℕ) : Type 0 where
+  pub looms-of-m : (j : ℕ) → times j us ≡ bit m j
+  pub first-of-X : FirstIs looms X us
+
+abbrev pub ReachedBy : (ℕ → ℕ → ℕ) → List Seat → ℕ → ℕ → ℕ → ℕ → Type 0
+ReachedBy next looms start X m q = (us : List ℕ) × OrderOf looms X m us × (reached next looms start us ≡ q)

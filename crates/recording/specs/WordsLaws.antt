@@ -24,7 +24,7 @@ use Rattle.recording.specs.declared.Seat.{Seat}
 use Rattle.recording.specs.UnionLaws.{in-union, union-first, union-second, in-single, empty-has-none, member-below, union-below, single-below}
 use Rattle.recording.specs.OrdersLaws.{single-digits, single-within, without, alone, times-end, reached-end, first-end, last-loom}
 use Rattle.recording.specs.Recording.{operationAt, sideAt, one, times, FirstIs, reached}
-use Rattle.recording.specs.Words.{withIf, advanced, firstBy, lastBy, wordFrom, filled}
+use Rattle.recording.specs.Words.{withIf, advanced, firstBy, lastBy, wordFrom, filled, OrderOf, ReachedBy}
 
 -- ---- a set moved by an operation
 -- q is where a member of the set, below k, moves to.
@@ -207,23 +207,14 @@ module _ (next : ℕ → ℕ → ℕ) (looms : List Seat) (states start X : ℕ)
       go (no other) before = union-first rest (lastBy next looms states start X earlier m k) q (before (omega arith))
 
   -- ---- soundness: whatever stands in word m, an order of exactly its looms reaches
-  -- An order of exactly the looms in m, a loom of X first.
-  pub record OrderOf (m : ℕ) (us : List ℕ) : Type 0 where
-    pub looms-of-m : (j : ℕ) → times j us ≡ bit m j
-    pub first-of-X : FirstIs looms X us
-
-  -- Some such order reaches q.
-  abbrev pub ReachedBy : ℕ → ℕ → Type 0
-  ReachedBy m q = (us : List ℕ) × OrderOf m us × (reached next looms start us ≡ q)
-
-  reached-first : (m j q : ℕ) → m ≡ 2 ^ j → sideAt looms j ≡ X → next (operationAt looms j) start ≡ q → ReachedBy m q
+  reached-first : (m j q : ℕ) → m ≡ 2 ^ j → sideAt looms j ≡ X → next (operationAt looms j) start ≡ q → ReachedBy next looms start X m q
   reached-first m j q only side goes = (
     j ∷ [],
     record { looms-of-m = λ i. omega (arith, ap (λ (x : ℕ). bit x i) only, single-digits j i); first-of-X = side },
     goes,
   )
 
-  reached-then : (m j p q : ℕ) → bit m j ≡ 1 → ReachedBy (m - 2 ^ j) p → next (operationAt looms j) p ≡ q → ReachedBy m q
+  reached-then : (m j p q : ℕ) → bit m j ≡ 1 → ReachedBy next looms start X (m - 2 ^ j) p → next (operationAt looms j) p ≡ q → ReachedBy next looms start X m q
   reached-then m j p q has before goes =
       let us = before .0 in (
         us ++ (j ∷ []),
@@ -238,25 +229,25 @@ module _ (next : ℕ → ℕ → ℕ) (looms : List Seat) (states start X : ℕ)
   earlier-word : (m j : ℕ) → bit m j ≡ 1 → getD (filled next looms states start X m) (m - 2 ^ j) 0 ≡ wordAt (m - 2 ^ j)
   earlier-word m j has = filled-at m (m - 2 ^ j) (omega (arith, single-within m j has, pow-pos j))
 
-  sound-step : (m : ℕ) → ((k : ℕ) → k < m → (p : ℕ) → bit (wordAt k) p ≡ 1 → ReachedBy k p)
-      → (q : ℕ) → bit (wordAt m) q ≡ 1 → ReachedBy m q
+  sound-step : (m : ℕ) → ((k : ℕ) → k < m → (p : ℕ) → bit (wordAt k) p ≡ 1 → ReachedBy next looms start X k p)
+      → (q : ℕ) → bit (wordAt m) q ≡ 1 → ReachedBy next looms start X m q
   sound-step m before q has = go (unfold wordAt in in-word earlier m (length looms) q has)
     where
       earlier : List ℕ
       earlier = filled next looms states start X m
 
-      by : (j : ℕ) → bit m j ≡ 1 → Brought earlier m j q → ReachedBy m q
+      by : (j : ℕ) → bit m j ≡ 1 → Brought earlier m j q → ReachedBy next looms start X m q
       by j has (inl first) = reached-first m j q (first .0) (first .1) (first .2)
       by j has (inr moved) =
           reached-then m j (moved .0) q has
           (before (m - 2 ^ j) (omega (arith, single-within m j has, pow-pos j)) (moved .0)
           (subst (λ (w : ℕ). bit w (moved .0) ≡ 1) (earlier-word m j has) (moved .2))) (moved .3)
 
-      go : (j : ℕ) × (j < length looms) × (bit (lastBy next looms states start X earlier m j) q ≡ 1) → ReachedBy m q
+      go : (j : ℕ) × (j < length looms) × (bit (lastBy next looms states start X earlier m j) q ≡ 1) → ReachedBy next looms start X m q
       go j = let last = in-last earlier m (j .0) q (j .2) in by (j .0) (last .0) (last .1)
 
-  pub word-sound : (m q : ℕ) → bit (wordAt m) q ≡ 1 → ReachedBy m q
-  word-sound = by-less (λ (m : ℕ). (q : ℕ) → bit (wordAt m) q ≡ 1 → ReachedBy m q) sound-step
+  pub word-sound : (m q : ℕ) → bit (wordAt m) q ≡ 1 → ReachedBy next looms start X m q
+  word-sound = by-less (λ (m : ℕ). (q : ℕ) → bit (wordAt m) q ≡ 1 → ReachedBy next looms start X m q) sound-step
 
   -- ---- the bound: a word holds states alone
   pub last-below : Closed next looms states start → (earlier : List ℕ) (m j : ℕ) → j < length looms
@@ -300,10 +291,10 @@ module _ (next : ℕ → ℕ → ℕ) (looms : List Seat) (states start X : ℕ)
         (rw (earlier-word m j has) there))
 
     Complete : ℕ → Type 0
-    Complete m = m < 2 ^ length looms → (us : List ℕ) → OrderOf m us → bit (wordAt m) (reached next looms start us) ≡ 1
+    Complete m = m < 2 ^ length looms → (us : List ℕ) → OrderOf looms X m us → bit (wordAt m) (reached next looms start us) ≡ 1
 
     complete-end : (m : ℕ) → ((k : ℕ) → k < m → Complete k) → m < 2 ^ length looms
-        → (vs : List ℕ) (v : ℕ) → OrderOf m (vs ++ (v ∷ [])) → bit (wordAt m) (reached next looms start (vs ++ (v ∷ []))) ≡ 1
+        → (vs : List ℕ) (v : ℕ) → OrderOf looms X m (vs ++ (v ∷ [])) → bit (wordAt m) (reached next looms start (vs ++ (v ∷ []))) ≡ 1
     unfolding Complete
     complete-end m before small [] v order =
         complete-first m v (member-below (length looms) m v small (last-in m [] v (order .looms-of-m))) (order .first-of-X)
@@ -323,8 +314,8 @@ module _ (next : ℕ → ℕ → ℕ) (looms : List Seat) (states start X : ℕ)
     complete-step m before small (u ∷ us) order =
         let last = last-loom u us in
         subst (λ (l : List ℕ). bit (wordAt m) (reached next looms start l) ≡ 1) (sym (last .2))
-        (complete-end m before small (last .0) (last .1) (subst (OrderOf m) (last .2) order))
+        (complete-end m before small (last .0) (last .1) (subst (OrderOf looms X m) (last .2) order))
 
-    pub word-complete : (m : ℕ) → m < 2 ^ length looms → (us : List ℕ) → OrderOf m us → bit (wordAt m) (reached next looms start us) ≡ 1
+    pub word-complete : (m : ℕ) → m < 2 ^ length looms → (us : List ℕ) → OrderOf looms X m us → bit (wordAt m) (reached next looms start us) ≡ 1
     unfolding Complete
     word-complete = by-less Complete complete-step
