@@ -2,7 +2,7 @@
 -- Assumes nothing.
 use Prim.Native.Nat.{ℕ, _≤_, _<_}
 use native.Mathlib.Omega.{arith}
-use native.Mathlib.Decide.{decLt, ℕ-discrete}
+use native.Mathlib.Decide.{decLt}
 use mathlib.Core.Path.{_≡_, refl, ap, sym, _∙_}
 use mathlib.Core.Bool.{Bool, true, false, not, cond, _||_}
 use mathlib.Core.List.{List}
@@ -16,10 +16,9 @@ use Rattle.recording.specs.declared.Certificate.{Certificate}
 use Rattle.recording.specs.declared.Judged.{Judged}
 use Rattle.recording.specs.Recording.{emptySeat, sideAt, operationAt, Recording}
 use Rattle.recording.specs.Check.{loomsOf, faultOf, judgedOf, checkOf}
-use Rattle.recording.specs.CheckLaws.{judged-refused}
-use Rattle.recording.specs.AdmittedLaws.{Admitted, admitted, all-fitted, fitting}
+use Rattle.recording.specs.AdmittedLaws.{Admitted, admitted, all-fitted, counted}
 use Rattle.recording.specs.Accepted.{check-says}
-use Rattle.recording.specs.AcceptedLaws.{sets-given}
+use Rattle.recording.specs.AcceptedLaws.{sets-given, past-faults}
 use Rattle.loom.specs.declared.Side.{Side}
 use Rattle.loom.specs.declared.Side.the-variants.{A, B}
 use Rattle.loom.specs.declared.Loom.{Loom}
@@ -60,17 +59,13 @@ opens j c numbers = by-tests (eqb (j .code) 0) (eqb (numbers .a) 0) (eqb (number
 module _ (table : List ℕ) (states operations : ℕ) (c : Certificate) (room : ℕ) (accepting : judgedOf table states operations c room .code ≡ 0) where
   -- A check that accepts is past all refusals.
   past : faultOf table states operations c room .code ≡ 0
-  past =
-      elim (ℕ-discrete (faultOf table states operations c room .code) 0) [
-        | yes none ↦ none
-        | no refused ↦ absurd (refused (sym (ap (λ (j : Judged). j .code) (judged-refused table states operations c room refused)) ∙ accepting))
-      ]
+  past = past-faults table states operations c room accepting
 
   ok : Admitted table states operations c room
   ok = admitted table states operations c room past
 
   as-many-looms : length (loomsOf c) ≡ c .count
-  as-many-looms = fitting table states operations c room ok .counted
+  as-many-looms = counted table states operations c room ok
 
   each-fitted : (k : ℕ) → k < length (loomsOf c) → (sideAt (loomsOf c) k ≤ 1) × (operationAt (loomsOf c) k < operations)
   each-fitted = all-fitted operations (loomsOf c) (omega (arith, as-many-looms, ok .fitted))

@@ -4,7 +4,6 @@ use Prim.Native.Nat.{ℕ, zero, suc, _+_, _<_, _≤_}
 use native.Mathlib.Omega.{arith}
 use native.Mathlib.Nat.{not-suc-le-zero, le-of-suc-le-suc}
 use native.Mathlib.Numerals.{add-one}
-use native.Mathlib.Decide.{ℕ-discrete}
 use mathlib.Core.Path.{_≡_, refl, sym, ap, subst, _∙_}
 use mathlib.Core.Bool.{Bool, true, false}
 use mathlib.Core.List.{List, [], _∷_}
@@ -16,8 +15,9 @@ use Rattle.recording.specs.declared.Seat.{Seat}
 use Rattle.recording.specs.declared.Certificate.{Certificate}
 use Rattle.recording.specs.declared.Judged.{Judged}
 use Rattle.recording.specs.Recording.{emptySeat}
-use Rattle.recording.specs.Check.{loomsOf, firstMisfit, faultOf, judgedOf}
-use Rattle.recording.specs.CheckLaws.{as-many, judged-refused}
+use Rattle.recording.specs.Check.{loomsOf, firstMisfit, judgedOf}
+use Rattle.recording.specs.AcceptedLaws.{past-faults}
+use Rattle.recording.specs.CheckLaws.{as-many}
 use Rattle.recording.specs.AdmittedLaws.{Admitted, admitted, all-fitted}
 use Rattle.loom.specs.declared.Loom.{Loom}
 use Rattle.group.specs.declared.Numbers.{Numbers}
@@ -91,12 +91,7 @@ codeIn j = j .code
 -- Code 0 of the check: past all refusals, so that start and operations fit in a byte.
 module _ (table : List ℕ) (states operations : ℕ) (c : Certificate) (room : ℕ) where
   pub accepted-admitted : judgedOf table states operations c room .code ≡ 0 → Admitted table states operations c room
-  accepted-admitted h =
-      admitted table states operations c room
-      (elim (ℕ-discrete (faultOf table states operations c room .code) 0) [
-        | yes e ↦ e
-        | no e ↦ absurd (e (sym (ap codeIn (judged-refused table states operations c room e)) ∙ h))
-      ])
+  accepted-admitted h = admitted table states operations c room (past-faults table states operations c room h)
 
   pub accepted-held : length (c .seats) ≡ edition .looms → judgedOf table states operations c room .code ≡ 0 → Held c
   accepted-held eight h =

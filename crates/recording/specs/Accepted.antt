@@ -51,6 +51,7 @@ check-says table states operations c room past =
 -- recording.
 pub accepts-exactly : (table : List ℕ) (states operations : ℕ) (c : Certificate) (room : ℕ)
     → (checkOf table states operations c room .code ≡ 0) ↔ ((faultOf table states operations c room .code ≡ 0) × RecordingOf table states c)
+unfolding checkOf
 accepts-exactly table states operations c room = (
   λ code. let past = laws.past-faults table states operations c room code in
       (past, laws.accepted table states operations c room past .0 code),

@@ -163,8 +163,7 @@ module _ (table : List ℕ) (states operations : ℕ) (c : Certificate) (room : 
 
 -- Code 0 is given past 2 to 9 and 40 alone.
 pub past-faults : (table : List ℕ) (states operations : ℕ) (c : Certificate) (room : ℕ)
-    → checkOf table states operations c room .code ≡ 0 → faultOf table states operations c room .code ≡ 0
-unfolding checkOf
+    → judgedOf table states operations c room .code ≡ 0 → faultOf table states operations c room .code ≡ 0
 past-faults table states operations c room code =
     elim (ℕ-discrete (faultOf table states operations c room .code) 0) [
       | yes past ↦ past

@@ -1,6 +1,7 @@
 -- The check's answer: document 01, "Cell and certificate" and "Codes and their order".
 -- Assumes nothing.
 use Prim.Native.Nat.{ℕ, suc, _*_, _^_}
+use mathlib.Core.Path.{_≡_}
 use mathlib.Core.Bool.{Bool, not, cond, _&&_, _||_}
 use mathlib.Core.List.{List, [], _∷_, _++_}
 use lib.Bits.{bitAnd}
@@ -121,3 +122,12 @@ wordsOver table states c area = wordsBy table states c 0 ++ wordsBy table states
 unfoldable pub areaOf : List ℕ → ℕ → ℕ → Certificate → List ℕ → List ℕ
 areaOf table states operations c area =
     cond (eqb (faultOf table states operations c (length area) .code) 0) (wordsOver table states c area) area
+
+-- What the check leaves: its answer, and the area. `judge` answers with the sets, `check` with their sizes.
+pub record Judges (table : List ℕ) (states operations : ℕ) (c : Certificate) (area : List ℕ) (answer : Judged) (after : List ℕ) : Type 0 where
+  pub answer-is : answer ≡ judgedOf table states operations c (length area)
+  pub area-is : after ≡ areaOf table states operations c area
+
+pub record Checks (table : List ℕ) (states operations : ℕ) (c : Certificate) (area : List ℕ) (answer : Checked) (after : List ℕ) : Type 0 where
+  pub answer-is : answer ≡ checkOf table states operations c (length area)
+  pub area-is : after ≡ areaOf table states operations c area

@@ -9,7 +9,7 @@ ghost use Rattle.cell.specs.Table.{entryOf};
 ghost use Rattle.cell.specs.Limits.{edition};
 ghost use Rattle.recording.specs.Recording.{one, sideCount};
 ghost use Rattle.recording.specs.Words.{advanced, unionOf};
-ghost use Rattle.recording.specs.Check.{loomsOf, misfitOf, firstMisfit, loomsFault, faultOf, comesBack, roomFor, verdictOf, verdictOn, setsBy, wordsOver, judgedOf, checkOf, areaOf};
+ghost use Rattle.recording.specs.Check.{loomsOf, misfitOf, firstMisfit, loomsFault, faultOf, comesBack, roomFor, verdictOf, verdictOn, setsBy, wordsOver, Judges, Checks};
 ghost use Rattle.recording.specs.Fitting.{Steps, Fitting, seatsOf, columnsOf, wordsTo, wordBy, addedBy, firstIn};
 use cell::Formed;
 use cell::Moved;
@@ -69,8 +69,7 @@ pub fn check(
     certificate: Certificate,
     area: &mut [u64],
 ) -> Checked
-    ensures { λ r. ⌜ (r ≡ checkOf (now (table .entry)) states operations certificate (length (now (area .entry))))
-        × (now (area .exit) ≡ areaOf (now (table .entry)) states operations certificate (now (area .entry))) ⌝ }
+    ensures { λ r. ⌜ Checks (now (table .entry)) states operations certificate (now (area .entry)) r (now (area .exit)) ⌝ }
 {
     let j = judge(table, states, operations, certificate, area);
     Checked {
@@ -89,8 +88,7 @@ pub fn judge(
     certificate: Certificate,
     area: &mut [u64],
 ) -> Judged
-    ensures { λ r. ⌜ (r ≡ judgedOf (now (table .entry)) states operations certificate (length (now (area .entry))))
-        × (now (area .exit) ≡ areaOf (now (table .entry)) states operations certificate (now (area .entry))) ⌝ }
+    ensures { λ r. ⌜ Judges (now (table .entry)) states operations certificate (now (area .entry)) r (now (area .exit)) ⌝ }
 {
     let f = fault(table, states, operations, certificate, area.len());
     if f.code != 0 {

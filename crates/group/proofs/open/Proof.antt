@@ -28,7 +28,7 @@ opening-requires c κs =
     let a = c .before .before .before .before .before .before .args in
     accepted-held (now (a .table)) (a .states) (a .operations) (a .certificate) (length (now (a .area)))
     (eight (c .before .before .before .before .before .before))
-    (ap codeIn (sym (c .before .before .judge .ensures .0)) ∙ none)
+    (ap codeIn (sym (c .before .before .judge .ensures .answer-is)) ∙ none)
 
 same-length : tie.Need-same-length
 same-length c = search needs
@@ -36,7 +36,7 @@ same-length c = search needs
 returns : tie.Need-returns
 returns c =
     let a = c .before .before .before .before .before .before .before .args in
-    (c .opening .ensures ∙ ap (λ j. openedBy j (a .certificate) (pieces (a .a) (a .b))) (c .before .before .before .judge .ensures .0), c .before .before .before .judge .ensures .1)
+    (c .opening .ensures ∙ ap (λ j. openedBy j (a .certificate) (pieces (a .a) (a .b))) (c .before .before .before .judge .ensures .answer-is), c .before .before .before .judge .ensures .area-is)
 
 pub open-spec : {M : Type 1} → statement M
 open-spec = tie.close (tie.spec judge-requires opening-requires same-length returns)

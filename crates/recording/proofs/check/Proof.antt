@@ -22,11 +22,13 @@ same-length c = search needs
 returns : tie.Need-returns
 unfolding checkOf
 returns c =
-    let judged = c .before .before .before .before .judge in (
-      ap₂ (λ (a b : ℕ). checked (judged .result .code) (judged .result .place) a b) (c .before .size .ensures) (c .size2 .ensures)
-          ∙ ap sizesOf (judged .ensures .0),
-      judged .ensures .1,
-    )
+    let judged = c .before .before .before .before .judge in
+    record {
+      answer-is =
+          ap₂ (λ (a b : ℕ). checked (judged .result .code) (judged .result .place) a b) (c .before .size .ensures) (c .size2 .ensures)
+          ∙ ap sizesOf (judged .ensures .answer-is);
+      area-is = judged .ensures .area-is;
+    }
 
 pub check-spec : {M : Type 1} → statement M
 check-spec = tie.close (tie.spec judge-requires size-requires size-requires-2 same-length returns)

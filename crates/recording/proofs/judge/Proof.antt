@@ -24,11 +24,13 @@ refused c none = c .if1 .taken (ap (λ (f : Formed). f .code) (c .before .before
 returns : tie.Need-returns
 returns c =
     let args = c .before .before .before .before .before .args in
-    let fault = c .before .before .fault .ensures in (
-      ap (λ (f : Formed). judgement (f .code) (f .place) 0 0) fault
-          ∙ sym (judged-refused (args .table .now) (args .states) (args .operations) (args .certificate) (length (args .area .now)) (refused c)),
-      sym (area-refused (args .table .now) (args .states) (args .operations) (args .certificate) (args .area .now) (refused c)),
-    )
+    let fault = c .before .before .fault .ensures in
+    record {
+      answer-is =
+          ap (λ (f : Formed). judgement (f .code) (f .place) 0 0) fault
+          ∙ sym (judged-refused (args .table .now) (args .states) (args .operations) (args .certificate) (length (args .area .now)) (refused c));
+      area-is = sym (area-refused (args .table .now) (args .states) (args .operations) (args .certificate) (args .area .now) (refused c));
+    }
 
 -- past the test no refusal of 2 to 9 or 40 applies
 past : (c : tie.Else1)
@@ -57,12 +59,14 @@ returns-2 : tie.Need-returns-2
 returns-2 c =
     let args = c .before .before .before .before .before .before .before .before .before .before .args in
     let ok = past (c .before .before .before .before .before) in
-    let filled = c .before .before .before .fill-both .ensures in (
-      c .verdict-on .ensures
+    let filled = c .before .before .before .fill-both .ensures in
+    record {
+      answer-is =
+          c .verdict-on .ensures
           ∙ ap (λ (f : Filled). verdictOn (args .certificate) (f .a) (f .b)) (filled .0)
-          ∙ sym (judged-past (args .table .now) (args .states) (args .operations) (args .certificate) (length (args .area .now)) ok),
-      filled .1 ∙ sym (area-past (args .table .now) (args .states) (args .operations) (args .certificate) (args .area .now) ok),
-    )
+          ∙ sym (judged-past (args .table .now) (args .states) (args .operations) (args .certificate) (length (args .area .now)) ok);
+      area-is = filled .1 ∙ sym (area-past (args .table .now) (args .states) (args .operations) (args .certificate) (args .area .now) ok);
+    }
 
 pub judge-spec : {M : Type 1} → statement M
 judge-spec =

@@ -28,9 +28,9 @@ returns c =
     let args = called .before .before .before .before .before .before .before .args in (
       c .with-checked .ensures
           ∙ ap (withChecked (args .out .now))
-          (called .check .ensures .0
+          (called .check .ensures .answer-is
           ∙ ap (λ (x : Certificate). checkOf (args .table .now) (args .states) (args .operations) x (length (args .area .now))) made),
-      called .check .ensures .1
+      called .check .ensures .area-is
           ∙ ap (λ (x : Certificate). areaOf (args .table .now) (args .states) (args .operations) x (args .area .now)) made,
     )
 
