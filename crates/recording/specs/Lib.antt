@@ -2,7 +2,9 @@ pub mod Accepted
 pub mod AcceptedLaws
 pub mod AdmittedLaws
 pub mod CatalogueAccepted
+pub mod CatalogueCertificate
 pub mod CatalogueOrders
+pub mod CatalogueSets
 pub mod Check
 pub mod CheckLaws
 pub mod Clauses
