@@ -10,9 +10,9 @@ use Rattle.loom.specs.declared.Side.{Side}
 use Rattle.loom.specs.declared.Side.the-variants.{A, B}
 use Rattle.loom.specs.Sides.{sameSide}
 use Rattle.loom.specs.Turn.{turnOf, afterPosted, afterLooking}
+use Rattle.loom.specs.SidesLaws.{same-side}
 use Rattle.agreement.specs.Machine.{Event, posted, applied, answered, restart, changedAt, withPost, withSaid, turned, steppedFrom, stepped, acted, after}
 use Rattle.agreement.specs.Agreed.{Had, Agreed}
-use Rattle.agreement.specs.Teams.{same-side}
 use Rattle.agreement.specs.LogLaws.{had-latest, had-still}
 use Rattle.agreement.specs.Certificates.{numbers, zeroForA, steps, eventsOf, sticky, stickyRules, returns, returnsRules, unyieldingRules, unexchangedRules, lateReturn, lateReturnRules, lateExchangedRules, sizeTwo, sizeTwoRules, pair, three, threeExchanged}
 

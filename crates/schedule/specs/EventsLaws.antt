@@ -18,13 +18,14 @@ use Rattle.loom.specs.declared.Said.{Said}
 use Rattle.loom.specs.declared.Said.the-variants.{Nothing, Application, Answer}
 use Rattle.loom.specs.Sides.{sameSide}
 use Rattle.loom.specs.Numbers.{saidNumber, saidApplied}
+use Rattle.loom.specs.Turn.{hasAnswered}
+use Rattle.loom.specs.SidesLaws.{same-side}
 use Rattle.agreement.specs.Machine.{Event, posted, applied, answered, withPost, withSaid}
 use Rattle.agreement.specs.Agreed.{Had}
-use Rattle.agreement.specs.Teams.{same-side}
 use Rattle.agreement.specs.LogLaws.{had-latest, had-still}
 use Rattle.group.specs.declared.Group.{Group}
 use Rattle.group.specs.Group.{loomAt}
-use Rattle.group.specs.Step.{hasAnswered, stepOf}
+use Rattle.group.specs.Step.{stepOf}
 use Rattle.demands.specs.Acts.{Act as Done, loomSteps, loomRestarts, allRestart, History, noted, actedOn, historyAfter, untouched}
 use Rattle.demands.specs.Fits.{WellFormed, Fits}
 use Rattle.demands.specs.FitsLaws.{turnIn, step-of-answered, step-of-unanswered}
