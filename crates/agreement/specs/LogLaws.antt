@@ -9,7 +9,6 @@ use mathlib.Core.List.{List, [], _∷_, _++_, append-assoc}
 use lib.Dec.{eqb}
 use borrow.Author.Tests.{eqb-true, eqb-false}
 use Rattle.loom.specs.declared.Side.{Side}
-use Rattle.loom.specs.declared.Side.the-variants.{A}
 use Rattle.loom.specs.declared.Shared.{Shared}
 use Rattle.loom.specs.Sides.{other, register, withRegister, withCell}
 use Rattle.loom.specs.SidesLaws.{same-or-other, register-written, register-kept, register-untouched}
@@ -29,6 +28,13 @@ had-latest e log = (log, ([], refl))
 -- What was in the log stays in it.
 pub had-still : (e d : Event) (log : List Event) → Had e log → Had e (d ∷ log)
 had-still e d log (older, (later, same)) = (older, (d ∷ later, ap (λ l. d ∷ l) same))
+
+-- An answer with side s is in the log; and stays in it.
+abbrev pub HadAnswer : Side → List Event → Type 0
+HadAnswer s log = (k : ℕ) × (v : ℕ) × Had (answered k s v) log
+
+pub answer-still : (s : Side) (d : Event) (log : List Event) → HadAnswer s log → HadAnswer s (d ∷ log)
+answer-still s d log (k, v, had) = (k, v, had-still (answered k s v) d log had)
 
 -- An event in the log is the latest or was there before.
 pub had-before : (e d : Event) (log : List Event) → Had e (d ∷ log) → (d ≡ e) ⊎ Had e log
