@@ -6,17 +6,12 @@ use mathlib.Core.List.{List, [], _∷_}
 use lib.Dec.{eqb}
 use Rattle.cell.specs.Table.{entryOf}
 use Rattle.recording.specs.declared.Seat.{Seat}
+use Rattle.recording.specs.Known as known
+use Rattle.recording.specs.Known.{ofA, ofB}
 use Rattle.loom.specs.declared.Side.{Side}
 use Rattle.loom.specs.declared.Side.the-variants.{A, B}
 use Rattle.loom.specs.Turn.{Rules}
 use Rattle.agreement.specs.Machine.{Event, Act, step, sideOf, after, opening}
-
--- A loom of side A, and one of side B, with an operation.
-abbrev pub onA : ℕ → Seat
-onA o = record { side = 0; operation = o }
-
-abbrev pub onB : ℕ → Seat
-onB o = record { side = 1; operation = o }
 
 -- q is one of the states.
 abbrev pub among : List ℕ → ℕ → Bool
@@ -38,25 +33,21 @@ abbrev pub steps : (Side → ℕ) → List Seat → List ℕ → List Act
 steps num looms [] = []
 steps num looms (k ∷ ks) = step k (num (sideOf looms k)) ∷ steps num looms ks
 
--- The operations of a table.
-abbrev pub operations : List ℕ → ℕ → ℕ → ℕ → ℕ
-operations table states o q = entryOf table states o q
-
 -- The events that acts leave on a group that opened with these looms and rules.
 unfoldable pub eventsOf : (ℕ → ℕ → ℕ) → List Seat → Rules → List Act → List Event
 eventsOf next looms R acts = after next looms R acts (opening (R .start)) .log
 
 -- sticky: 0→1 1→1 2→2; 0→2 1→1 2→2
 abbrev pub sticky : ℕ → ℕ → ℕ
-sticky = operations (1 ∷ 1 ∷ 2 ∷ 2 ∷ 1 ∷ 2 ∷ []) 3
+sticky = entryOf (1 ∷ 1 ∷ 2 ∷ 2 ∷ 1 ∷ 2 ∷ []) 3
 
 -- Its rules.
 abbrev pub stickyRules : Rules
 stickyRules = record { start = 0; leading = A; inLeading = among (1 ∷ []); yieldsAlone = true }
 
--- returns: 1 1 2; 2 0 2
+-- returns
 abbrev pub returns : ℕ → ℕ → ℕ
-returns = operations (1 ∷ 1 ∷ 2 ∷ 2 ∷ 0 ∷ 2 ∷ []) 3
+returns = entryOf known.returns 3
 
 -- Its rules.
 abbrev pub returnsRules : Rules
@@ -71,17 +62,17 @@ unexchangedRules = record { start = 0; leading = B; inLeading = among (2 ∷ [])
 
 -- A0 B1, and A0 B1 B1, and B0 A1 A1
 abbrev pub pair : List Seat
-pair = onA 0 ∷ onB 1 ∷ []
+pair = ofA 0 ∷ ofB 1 ∷ []
 
 abbrev pub three : List Seat
-three = onA 0 ∷ onB 1 ∷ onB 1 ∷ []
+three = ofA 0 ∷ ofB 1 ∷ ofB 1 ∷ []
 
 abbrev pub threeExchanged : List Seat
-threeExchanged = onB 0 ∷ onA 1 ∷ onA 1 ∷ []
+threeExchanged = ofB 0 ∷ ofA 1 ∷ ofA 1 ∷ []
 
--- late return: 1 1 2 3; 2 3 2 0. With A0 B1 B1 the set of A is 0, 1 and 3, that of B is 2; code 21.
+-- late return. With A0 B1 B1 the set of A is 0, 1 and 3, that of B is 2; code 21.
 abbrev pub lateReturn : ℕ → ℕ → ℕ
-lateReturn = operations (1 ∷ 1 ∷ 2 ∷ 3 ∷ 2 ∷ 3 ∷ 2 ∷ 0 ∷ []) 4
+lateReturn = entryOf known.lateReturn 4
 
 -- Its rules.
 abbrev pub lateReturnRules : Rules
@@ -91,10 +82,10 @@ lateReturnRules = record { start = 0; leading = A; inLeading = among (0 ∷ 1 �
 abbrev pub lateExchangedRules : Rules
 lateExchangedRules = record { start = 0; leading = B; inLeading = among (0 ∷ 1 ∷ 3 ∷ []); yieldsAlone = false }
 
--- size 2, three looms: 2 2 0 3; 1 2 3 2. With A0 B1 B1 the set of A is 0, 1 and 2, that of B is 0, 2 and 3; code 20. The start, 2, is in the
+-- size 2, three looms. With A0 B1 B1 the set of A is 0, 1 and 2, that of B is 0, 2 and 3; code 20. The start, 2, is in the
 -- set of B: B leads.
 abbrev pub sizeTwo : ℕ → ℕ → ℕ
-sizeTwo = operations (2 ∷ 2 ∷ 0 ∷ 3 ∷ 1 ∷ 2 ∷ 3 ∷ 2 ∷ []) 4
+sizeTwo = entryOf known.sizeTwo 4
 
 -- Its rules.
 abbrev pub sizeTwoRules : Rules

@@ -15,9 +15,9 @@ use Rattle.loom.specs.declared.Place.{Place}
 use Rattle.loom.specs.declared.Place.the-variants.{Begin, Posted, Looking, Ready, Applied, Bound, Answered}
 use Rattle.loom.specs.Sides.{other, sameSide, register}
 use Rattle.loom.specs.Turn.{Rules, turnOf}
+use Rattle.loom.specs.SidesLaws.{same-as-itself}
 use Rattle.agreement.specs.Machine.{Filled, Act, step, restart, restartAll, EachStep, State, sideOf, changedAt, withPost, withSaid, turned, steppedFrom, stepped, acted, after, opening}
 use Rattle.agreement.specs.MachineLaws.{changed-itself, changed-other}
-use Rattle.agreement.specs.Teams.{same-as-itself}
 use Rattle.agreement.specs.LogLaws.{changed-all}
 use Rattle.agreement.specs.Figure.{Team, teamA, teamB, Value, Access, at5, at6, at8, at9, at11, at12, at16, at17, at19, at20, at22, at23, at26, at27, Process, running, returned, Objects, System, Setting, firstLine, access, ahead, movedFrom, moved, ran, initial}
 use Rattle.agreement.specs.Matched.{teamOf, sideOfTeam, settingOf, placeAt, placeOf, answersOf, returnsOf}

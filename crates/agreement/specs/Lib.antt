@@ -18,6 +18,4 @@ pub mod MatchedLaws
 pub mod JoinedLaws
 pub mod FigureTwo
 pub mod Certificates
-pub mod TwoLooms
-pub mod Examples
 pub mod Refused

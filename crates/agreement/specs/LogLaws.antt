@@ -1,4 +1,4 @@
--- Laws of logs, of the registers, and of the places changed at one loom.
+-- Laws of logs, of registers that are honest, and of the places changed at one loom.
 -- Assumes nothing.
 use Prim.Native.Nat.{ℕ}
 use native.Mathlib.Omega.{arith}
@@ -9,12 +9,11 @@ use mathlib.Core.List.{List, [], _∷_, _++_, append-assoc}
 use lib.Dec.{eqb}
 use borrow.Author.Tests.{eqb-true, eqb-false}
 use Rattle.loom.specs.declared.Side.{Side}
-use Rattle.loom.specs.declared.Side.the-variants.{A, B}
 use Rattle.loom.specs.declared.Shared.{Shared}
 use Rattle.loom.specs.Sides.{other, register, withRegister, withCell}
+use Rattle.loom.specs.SidesLaws.{same-or-other, register-written, register-kept, register-untouched}
 use Rattle.agreement.specs.Machine.{Filled, Event, posted, applied, answered, changedAt}
 use Rattle.agreement.specs.Agreed.{Came, Had, NoneApplied, Settled}
-use Rattle.agreement.specs.Teams.{either}
 use Rattle.agreement.specs.Phases.{Fits, AllFit, Honest}
 
 -- Nothing is in an empty log.
@@ -29,6 +28,13 @@ had-latest e log = (log, ([], refl))
 -- What was in the log stays in it.
 pub had-still : (e d : Event) (log : List Event) → Had e log → Had e (d ∷ log)
 had-still e d log (older, (later, same)) = (older, (d ∷ later, ap (λ l. d ∷ l) same))
+
+-- An answer with side s is in the log; and stays in it.
+abbrev pub HadAnswer : Side → List Event → Type 0
+HadAnswer s log = (k : ℕ) × (v : ℕ) × Had (answered k s v) log
+
+pub answer-still : (s : Side) (d : Event) (log : List Event) → HadAnswer s log → HadAnswer s (d ∷ log)
+answer-still s d log (k, v, had) = (k, v, had-still (answered k s v) d log had)
 
 -- An event in the log is the latest or was there before.
 pub had-before : (e d : Event) (log : List Event) → Had e (d ∷ log) → (d ≡ e) ⊎ Had e log
@@ -72,24 +78,9 @@ settled-by X log fit =
     names : (i : ℕ) (s : Side) (v : ℕ) → Had (answered i s v) log → s ≡ X
     names i s v (older, came) = fits-at X (answered i s v) older log fit came .0
 
--- A post writes one register, and not the cell.
-pub cell-kept : (m : Shared) (s : Side) (v : ℕ) → withRegister m s v .cell ≡ m .cell
-cell-kept m A v = refl
-cell-kept m B v = refl
-
--- The register of the side holds the number.
-pub register-written : (m : Shared) (s : Side) (v : ℕ) → register (withRegister m s v) s ≡ v
-register-written m A v = refl
-register-written m B v = refl
-
--- The other register holds what it held.
-pub register-kept : (m : Shared) (s : Side) (v : ℕ) → register (withRegister m s v) (other s) ≡ register m (other s)
-register-kept m A v = refl
-register-kept m B v = refl
-
 -- A register that is filled stays filled, and what it holds was posted.
 pub filled-still : (m : Shared) (s : Side) (v : ℕ) → Filled v → (x : Side) → Filled (register m x) → Filled (register (withRegister m s v) x)
-filled-still m s v some x old = by-side (either x s)
+filled-still m s v some x old = by-side (same-or-other x s)
   where
     by-side : (x ≡ s) ⊎ (x ≡ other s) → Filled (register (withRegister m s v) x)
     by-side (inl e) none = some (sym (register-written m s v) ∙ rw e at none)
@@ -97,18 +88,13 @@ filled-still m s v some x old = by-side (either x s)
 
 -- What the registers hold after a post was posted.
 pub honest-post : (k : ℕ) (m : Shared) (s : Side) (v : ℕ) (log : List Event) → Honest m log → Honest (withRegister m s v) (posted k s v ∷ log)
-honest-post k m s v log old x full = by-side (either x s)
+honest-post k m s v log old x full = by-side (same-or-other x s)
   where
     by-side : (x ≡ s) ⊎ (x ≡ other s) → (j : ℕ) × Had (posted j x (register (withRegister m s v) x)) (posted k s v ∷ log)
     by-side (inl e) = (k, rw (e, register-written m s v) (had-latest (posted k s v) log))
     by-side (inr e) =
         let was = old (other s) (rw (← register-kept m s v, ← e) full) in
         (was .0, rw (e, register-kept m s v) (had-still (posted (was .0) (other s) (register m (other s))) (posted k s v) log (was .1)))
-
--- An application writes the cell, and no register.
-pub register-untouched : (m : Shared) (q : ℕ) (x : Side) → register (withCell m q) x ≡ register m x
-register-untouched m q A = refl
-register-untouched m q B = refl
 
 -- What the registers hold after an application was posted.
 pub honest-application : (k : ℕ) (s : Side) (m : Shared) (q : ℕ) (log : List Event) → Honest m log → Honest (withCell m q) (applied k s ∷ log)

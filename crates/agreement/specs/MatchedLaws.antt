@@ -2,7 +2,7 @@
 -- Assumes nothing.
 use Prim.Native.Nat.{ℕ, zero, suc}
 use mathlib.Core.Path.{_≡_, refl, ap, sym, _∙_}
-use mathlib.Core.Bool.{Bool, true, false, cond, _&&_}
+use mathlib.Core.Bool.{Bool, true, false, cond, _&&_, and-true}
 use mathlib.Core.Option.{none, some}
 use mathlib.Core.List.{List, _∷_}
 use lib.Dec.{eqb}
@@ -13,9 +13,8 @@ use Rattle.loom.specs.declared.Place.the-variants.{Looking, Ready, Bound}
 use Rattle.loom.specs.declared.Shared.{Shared}
 use Rattle.loom.specs.Sides.{other, sameSide, register, withCell}
 use Rattle.loom.specs.Turn.{Rules, Turn, turnOf, decided, looks, afterPosted, afterLooking}
+use Rattle.loom.specs.SidesLaws.{other-other, same-as-itself, cell-kept, register-written, register-kept, register-untouched}
 use Rattle.agreement.specs.Machine.{Filled, Event, withPost, withSaid}
-use Rattle.agreement.specs.Teams.{other-other, same-as-itself}
-use Rattle.agreement.specs.LogLaws.{cell-kept, register-written, register-kept, register-untouched}
 use Rattle.agreement.specs.Figure.{Team, teamA, teamB, Value, Line, line5, line6, line7, line9, line11, line16, line17, line18, line20, line22, line23, line26, Access, at5, at6, at8, at9, at11, at12, at16, at17, at19, at20, at22, at23, at26, at27, Process, running, returned, Objects, Return, Done, Setting, test, afterLine19, access, withReturn, ahead}
 use Rattle.agreement.specs.Matched.{sideOfTeam, settingOf, number, placeAt, placeOf, Given, answersOf, returnsOf}
 
@@ -118,11 +117,7 @@ leading-looks R = by-side (R .leading) (R .yieldsAlone)
     by-side B false = refl
 
 pub yielding-looks : (R : Rules) → looks R (other (R .leading)) ≡ R .yieldsAlone
-yielding-looks R = rw (same-as-itself (other (R .leading))) (by-test (R .yieldsAlone))
-  where
-    by-test : (b : Bool) → b && true ≡ b
-    by-test true = refl
-    by-test false = refl
+yielding-looks R = rw (same-as-itself (other (R .leading))) (and-true (R .yieldsAlone))
 
 -- An application changes the cell and the object alike, and no register.
 pub same-applied : {L : Side} (op : ℕ → ℕ) (m : Shared) (M : Objects) → Same L m M →

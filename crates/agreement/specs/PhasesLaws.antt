@@ -3,7 +3,7 @@
 use Prim.Native.Nat.{ℕ, zero, suc, _<_}
 use native.Mathlib.Omega.{arith}
 use mathlib.Core.Path.{_≡_, refl, ap, sym, _∙_}
-use mathlib.Core.Bool.{Bool, true, false, cond, _&&_}
+use mathlib.Core.Bool.{Bool, true, false, cond, and-eq-true-iff}
 use mathlib.Core.Logic.{_⊎_, inl, inr}
 use mathlib.Core.List.{List, [], _∷_, _++_}
 use lib.Dec.{eqb, ltb}
@@ -18,13 +18,14 @@ use Rattle.loom.specs.declared.Place.the-variants.{Begin, Posted, Looking, Read
 use Rattle.loom.specs.declared.Shared.{Shared}
 use Rattle.loom.specs.Sides.{sideNumber, other, sameSide, register, withRegister, withCell}
 use Rattle.loom.specs.Turn.{Rules, turnOf, decided, looks, afterPosted, afterLooking}
+use Rattle.loom.specs.SidesLaws.{same-or-other, other-other, same-side, same-as-itself, cell-kept, register-written, register-untouched}
 use Rattle.agreement.specs.Machine.{Filled, Event, posted, applied, answered, Act, step, restart, restartAll, EachStep, State, sideOf, changedAt, withPost, withSaid, turned, replaced, steppedFrom, stepped, acted, after, opening}
 use Rattle.agreement.specs.Agreed.{NoneApplied}
 use Rattle.agreement.specs.Fitted.{Fitted}
 use Rattle.agreement.specs.Orders.{order-of-one, order-of-one-more, reached-by-one-more, not-in-one-more}
-use Rattle.agreement.specs.Teams.{either, other-other, same-side, same-as-itself, side-number, start-or-alone, every-loom-appears, decides, one-yields, leads-without}
+use Rattle.agreement.specs.Teams.{side-number, start-or-alone, every-loom-appears, decides, one-yields, leads-without}
 use Rattle.agreement.specs.Phases.{Phase, fresh, even, first, AllFit, Honest, Wins, MayApply, MayLook, MayRead, Stands, Begun, First, Phased, Holds}
-use Rattle.agreement.specs.LogLaws.{had-nothing, had-latest, had-still, none-applied-by-post, still-applied, cell-kept, register-written, register-untouched, filled-still, honest-post, honest-application, changed-all}
+use Rattle.agreement.specs.LogLaws.{had-nothing, had-latest, had-still, none-applied-by-post, still-applied, filled-still, honest-post, honest-application, changed-all}
 
 module _ {next : ℕ → ℕ → ℕ} {looms : List Seat} {start : ℕ} {R : Rules} (given : Fitted next looms start R) where
   -- The invariant with another place for loom k, and nothing else changed.
@@ -84,14 +85,11 @@ module _ {next : ℕ → ℕ → ℕ} {looms : List Seat} {start : ℕ} {R : Rul
 
   -- A loom of the yielding side looks, where that side has one loom; and only such a loom.
   pub looks-yields : (s : Side) → looks R s ≡ true → (s ≡ other (R .leading)) × (R .yieldsAlone ≡ true)
-  looks-yields s = by-test (R .yieldsAlone)
-    where
-      by-test : (b : Bool) → b && sameSide s (other (R .leading)) ≡ true → (s ≡ other (R .leading)) × (b ≡ true)
-      by-test true e = (same-side s (other (R .leading)) e, refl)
-      by-test false e = absurd (let z : _≡_ {A = ℕ} 0 1 = cc in omega arith)
+  looks-yields s e =
+      let parts = and-eq-true-iff (R .yieldsAlone) (sameSide s (other (R .leading))) .0 e in (same-side s (other (R .leading)) (parts .1), parts .0)
 
   pub not-looking-leads : (s : Side) → R .yieldsAlone ≡ true → looks R s ≡ false → s ≡ R .leading
-  not-looking-leads s alone unlooking = by-side (either s (R .leading))
+  not-looking-leads s alone unlooking = by-side (same-or-other s (R .leading))
     where
       by-side : (s ≡ R .leading) ⊎ (s ≡ other (R .leading)) → s ≡ R .leading
       by-side (inl e) = e
@@ -131,7 +129,7 @@ module _ {next : ℕ → ℕ → ℕ} {looms : List Seat} {start : ℕ} {R : Rul
       changed-all (Stands next looms start R even) (S .place) k (Bound x) wins (λ j apart. others j apart (S .place j) (stands j) (begins j))
     where
       leads : (j : ℕ) → (j ≡ k → ⊥) → j < length looms → sideOf looms j ≡ R .leading
-      leads j apart there = by-side (either (sideOf looms j) (R .leading))
+      leads j apart there = by-side (same-or-other (sideOf looms j) (R .leading))
         where
           by-side : (sideOf looms j ≡ R .leading) ⊎ (sideOf looms j ≡ other (R .leading)) → sideOf looms j ≡ R .leading
           by-side (inl e) = e
@@ -209,7 +207,7 @@ module _ {next : ℕ → ℕ → ℕ} {looms : List Seat} {start : ℕ} {R : Rul
 
   -- Where looms have taken the cell back to the start, a loom of the leading side was first among them.
   pub leading-first : (X : Side) (us : List ℕ) → Order looms (sideNumber X) us → reached next looms start us ≡ start → X ≡ R .leading
-  leading-first X us order back = by-side (either X (R .leading))
+  leading-first X us order back = by-side (same-or-other X (R .leading))
     where
       by-side : (X ≡ R .leading) ⊎ (X ≡ other (R .leading)) → X ≡ R .leading
       by-side (inl e) = e
@@ -230,7 +228,7 @@ module _ {next : ℕ → ℕ → ℕ} {looms : List Seat} {start : ℕ} {R : Rul
   stands-at-return m us order back j Begin old begin = tt
   stands-at-return m us order back j Posted old begin = tt
   stands-at-return m us order back j Looking old begin = (old .0, old .1, tt)
-  stands-at-return m us order back j Ready old begin = by-side (either (sideOf looms j) (R .leading))
+  stands-at-return m us order back j Ready old begin = by-side (same-or-other (sideOf looms j) (R .leading))
     where
       by-side : (sideOf looms j ≡ R .leading) ⊎ (sideOf looms j ≡ other (R .leading)) → sideOf looms j ≡ R .leading
       by-side (inl e) = e

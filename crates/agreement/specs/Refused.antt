@@ -10,10 +10,10 @@ use Rattle.loom.specs.declared.Side.{Side}
 use Rattle.loom.specs.declared.Side.the-variants.{A, B}
 use Rattle.loom.specs.Sides.{sameSide}
 use Rattle.loom.specs.Turn.{turnOf, afterPosted, afterLooking}
+use Rattle.loom.specs.SidesLaws.{same-side}
 use Rattle.agreement.specs.Machine.{Event, posted, applied, answered, restart, changedAt, withPost, withSaid, turned, steppedFrom, stepped, acted, after}
-use Rattle.agreement.specs.Agreed.{Had, Agreed}
-use Rattle.agreement.specs.Teams.{same-side}
-use Rattle.agreement.specs.LogLaws.{had-latest, had-still}
+use Rattle.agreement.specs.Agreed.{Agreed}
+use Rattle.agreement.specs.LogLaws.{had-latest, HadAnswer, answer-still}
 use Rattle.agreement.specs.Certificates.{numbers, zeroForA, steps, eventsOf, sticky, stickyRules, returns, returnsRules, unyieldingRules, unexchangedRules, lateReturn, lateReturnRules, lateExchangedRules, sizeTwo, sizeTwoRules, pair, three, threeExchanged}
 
 -- Whether an answer in the log names side s.
@@ -23,20 +23,17 @@ names s (posted k t v ∷ log) = names s log
 names s (applied k t ∷ log) = names s log
 names s (answered k t v ∷ log) = sameSide t s || names s log
 
-one-more : (e : Event) (log : List Event) (s : Side) → (i : ℕ) × ((v : ℕ) × Had (answered i s v) log) → (i : ℕ) × ((v : ℕ) × Had (answered i s v) (e ∷ log))
-one-more e log s (i, (v, had)) = (i, (v, had-still (answered i s v) e log had))
-
 -- Then such an answer is in the log.
-pub had-of-names : (s : Side) (log : List Event) → names s log ≡ true → (i : ℕ) × ((v : ℕ) × Had (answered i s v) log)
+pub had-of-names : (s : Side) (log : List Event) → names s log ≡ true → HadAnswer s log
 had-of-names s [] e = absurd (let z : _≡_ {A = ℕ} 0 1 = cc in omega arith)
-had-of-names s (posted k t v ∷ log) e = one-more (posted k t v) log s (had-of-names s log e)
-had-of-names s (applied k t ∷ log) e = one-more (applied k t) log s (had-of-names s log e)
+had-of-names s (posted k t v ∷ log) e = answer-still s (posted k t v) log (had-of-names s log e)
+had-of-names s (applied k t ∷ log) e = answer-still s (applied k t) log (had-of-names s log e)
 had-of-names s (answered k t v ∷ log) e = by-test (sameSide t s) refl e (had-of-names s log)
   where
-    by-test : (b : Bool) → sameSide t s ≡ b → (b || names s log) ≡ true → (names s log ≡ true → (i : ℕ) × ((w : ℕ) × Had (answered i s w) log)) →
-        (i : ℕ) × ((w : ℕ) × Had (answered i s w) (answered k t v ∷ log))
-    by-test true same either rest = (k, (v, rw (same-side t s same) (had-latest (answered k s v) log)))
-    by-test false same either rest = one-more (answered k t v) log s (rest either)
+    by-test : (b : Bool) → sameSide t s ≡ b → (b || names s log) ≡ true → (names s log ≡ true → HadAnswer s log) →
+        HadAnswer s (answered k t v ∷ log)
+    by-test true same either rest = (k, v, rw (same-side t s same) (had-latest (answered k s v) log))
+    by-test false same either rest = answer-still s (answered k t v) log (rest either)
 
 -- The log is these events, and the looms do not agree.
 abbrev pub Disagrees : (Side → ℕ) → List Event → List Event → Type 0
@@ -50,7 +47,7 @@ disagree num log events same one two = (same, refuted)
     refuted agreed =
         let a = had-of-names A events one in
         let b = had-of-names B events two in
-        let equal = (rw same at agreed) .settled .one-side (a .0) (b .0) A B (a .1 .0) (b .1 .0) (a .1 .1) (b .1 .1) in
+        let equal = (rw same at agreed) .settled .one-side (a .0) (b .0) A B (a .1) (b .1) (a .2) (b .2) in
         let z : _≡_ {A = ℕ} 0 1 = cc in
         omega arith
 

@@ -3,7 +3,7 @@
 use Prim.Native.Nat.{ℕ, zero, suc, _+_, _≤_, _<_, min}
 use native.Mathlib.Omega.{arith}
 use mathlib.Core.Path.{_≡_, refl, sym}
-use mathlib.Core.Bool.{Bool, true, false, cond, _&&_}
+use mathlib.Core.Bool.{Bool, true, false, not, cond, _&&_}
 use mathlib.Core.List.{List, [], _∷_}
 use lib.Dec.{eqb, ltb, eqb-refl}
 use lib.ListN.{length}
@@ -15,12 +15,12 @@ use Rattle.loom.specs.declared.Place.{Place}
 use Rattle.loom.specs.declared.Place.the-variants.{Begin, Posted, Looking, Ready, Applied, Bound, Answered}
 use Rattle.loom.specs.declared.Shared.{Shared}
 use Rattle.loom.specs.Sides.{other, register}
-use Rattle.loom.specs.Turn.{Rules, turnOf, decided, looks, afterPosted, afterLooking}
+use Rattle.loom.specs.Turn.{Rules, hasAnswered, turnOf, decided, looks, afterPosted, afterLooking}
 use Rattle.agreement.specs.Machine.{Event, answered, Act, step, restart, restartAll, State, sideOf, withPost, withSaid, turned, steppedFrom, stepped, acted, after}
 use Rattle.agreement.specs.Agreed.{Had}
 use Rattle.agreement.specs.LogLaws.{had-latest, had-still, changed-all}
 use Rattle.agreement.specs.MachineLaws.{stepped-no-loom, place-stepped, place-unstepped, place-unrestarted}
-use Rattle.agreement.specs.Steps.{stepsOf, Unrestarted, unanswered, counted, countAfter}
+use Rattle.agreement.specs.Steps.{stepsOf, Unrestarted}
 
 -- How far a loom has come.
 abbrev pub rank : Place → ℕ
@@ -64,7 +64,7 @@ rank-after-looking s (suc w) = omega arith
 
 -- A turn raises the rank, except where the loom has answered.
 pub rank-rises : (R : Rules) (s : Side) (v : ℕ) (op : ℕ → ℕ) (m : Shared) (p : Place) →
-    one (unanswered p) + rank p ≤ rank (turnOf R s v op m p .place)
+    one (not (hasAnswered p)) + rank p ≤ rank (turnOf R s v op m p .place)
 unfolding turnOf afterPosted
 rank-rises R s v op m Begin = omega arith
 rank-rises R s v op m Posted =
@@ -82,7 +82,7 @@ rank-rises R s v op m (Bound x) = omega arith
 rank-rises R s v op m (Answered x) = omega arith
 
 -- Up to six, a step that is not refused for an answer gains one.
-pub gain-up-to-six : (p : Place) → min 6 (1 + rank p) ≤ one (unanswered p) + rank p
+pub gain-up-to-six : (p : Place) → min 6 (1 + rank p) ≤ one (not (hasAnswered p)) + rank p
 gain-up-to-six Begin = omega arith
 gain-up-to-six Posted = omega arith
 gain-up-to-six Looking = omega arith
@@ -94,34 +94,17 @@ gain-up-to-six (Answered x) = omega arith
 module _ (next : ℕ → ℕ → ℕ) (looms : List Seat) (R : Rules) where
   -- A step raises the rank of a loom of the group that has not answered, and no other act but a restart of it changes its rank.
   pub rank-stepped : (S : State) (j v k : ℕ) (b : Bool) → eqb j k ≡ b →
-      one (b && (ltb k (length looms) && unanswered (S .place k))) + rank (S .place k) ≤ rank (acted next looms R (step j v) S .place k)
+      one (b && (ltb k (length looms) && not (hasAnswered (S .place k)))) + rank (S .place k) ≤ rank (acted next looms R (step j v) S .place k)
   rank-stepped S j v k true e = rw (eqb-true j k e) (by-test (ltb k (length looms)) refl)
     where
       by-test : (b : Bool) → ltb k (length looms) ≡ b →
-          one (b && unanswered (S .place k)) + rank (S .place k) ≤ rank (acted next looms R (step k v) S .place k)
+          one (b && not (hasAnswered (S .place k))) + rank (S .place k) ≤ rank (acted next looms R (step k v) S .place k)
       by-test true here =
           rw
           (place-stepped next looms R S k v (ltb-true k (length looms) here))
           (rank-rises R (sideOf looms k) v (next (operationAt looms k)) (S .shared) (S .place k))
       by-test false past = rw (stepped-no-loom next looms R S k v (ltb-false k (length looms) past)) (omega arith)
   rank-stepped S j v k false e = rw (place-unstepped next looms R S j v k (λ same. eqb-false j k e (sym same))) (omega arith)
-
-  -- A loom's count is never past its rank.
-  pub counted-within-rank : (a : Act) (S : State) (k c : ℕ) → c ≤ rank (S .place k) → counted looms k a S c ≤ rank (acted next looms R a S .place k)
-  unfolding counted
-  counted-within-rank (step j v) S k c low = omega (arith, rank-stepped S j v k (eqb j k) refl)
-  counted-within-rank (restart j) S k c low = by-test (eqb j k) refl
-    where
-      by-test : (b : Bool) → eqb j k ≡ b → cond b 0 c ≤ rank (acted next looms R (restart j) S .place k)
-      by-test true e = omega arith
-      by-test false e = rw (place-unrestarted next looms R S j k (λ same. eqb-false j k e (sym same))) low
-  counted-within-rank restartAll S k c low = omega arith
-
-  pub count-within-rank : (acts : List Act) (S : State) (k c : ℕ) → c ≤ rank (S .place k) →
-      countAfter next looms R k acts S c ≤ rank (after next looms R acts S .place k)
-  unfolding countAfter after
-  count-within-rank [] S k c low = low
-  count-within-rank (a ∷ acts) S k c low = count-within-rank acts (acted next looms R a S) k (counted looms k a S c) (counted-within-rank a S k c low)
 
   -- Six steps with no restart in between raise any rank to the highest.
   pub rank-after : (acts : List Act) (S : State) (k : ℕ) → k < length looms → Unrestarted k acts →
@@ -131,7 +114,7 @@ module _ (next : ℕ → ℕ → ℕ) (looms : List Seat) (R : Rules) where
   rank-after (step j v ∷ acts) S k here free =
       omega (arith, rank-after acts (acted next looms R (step j v) S) k here free, gained)
     where
-      by-test : (b : Bool) → one (b && unanswered (S .place k)) + rank (S .place k) ≤ rank (acted next looms R (step j v) S .place k) →
+      by-test : (b : Bool) → one (b && not (hasAnswered (S .place k))) + rank (S .place k) ≤ rank (acted next looms R (step j v) S .place k) →
           min 6 (one b + rank (S .place k)) ≤ rank (acted next looms R (step j v) S .place k)
       by-test true most = omega (arith, gain-up-to-six (S .place k))
       by-test false most = omega arith

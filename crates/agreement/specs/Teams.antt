@@ -1,7 +1,6 @@
 -- 003's sets by the looms' sides, and its Lemma 7.
 -- Assumes nothing.
-use Prim.Native.Nat.{ℕ, zero, suc, _≤_, _<_}
-use native.Mathlib.Nat.{le-of-suc-le-suc, not-suc-le-zero}
+use Prim.Native.Nat.{ℕ, _<_}
 use native.Mathlib.Omega.{arith}
 use mathlib.Core.Path.{_≡_, refl, ap, sym, _∙_}
 use mathlib.Core.Bool.{Bool, true, false, cond}
@@ -12,41 +11,12 @@ use Rattle.recording.specs.declared.Seat.{Seat}
 use Rattle.recording.specs.Recording.{sideAt, operationAt, sideCount, times, Order, reached, InSet}
 use Rattle.loom.specs.declared.Side.{Side}
 use Rattle.loom.specs.declared.Side.the-variants.{A, B}
-use Rattle.loom.specs.Sides.{sideNumber, sideFrom, other, sameSide}
-use Rattle.loom.specs.SidesLaws.{side-of-number}
+use Rattle.loom.specs.Sides.{sideNumber, sideFrom, other}
+use Rattle.loom.specs.SidesLaws.{side-of-number, same-or-other, number-of-side}
 use Rattle.loom.specs.Turn.{Rules, decided}
 use Rattle.agreement.specs.Machine.{sideOf}
 use Rattle.agreement.specs.Fitted.{Fitted}
 use Rattle.agreement.specs.Orders.{order-of-one, order-of-one-more, reached-by-one-more, loom-of-order, lone}
-
--- There are two sides.
-pub either : (s t : Side) → (s ≡ t) ⊎ (s ≡ other t)
-either A A = inl refl
-either A B = inr refl
-either B A = inr refl
-either B B = inl refl
-
--- The other side of the other side is the side.
-pub other-other : (s : Side) → other (other s) ≡ s
-other-other A = refl
-other-other B = refl
-
--- The test for one side.
-pub same-side : (s t : Side) → sameSide s t ≡ true → s ≡ t
-same-side A A e = refl
-same-side A B e = cc
-same-side B A e = cc
-same-side B B e = refl
-
-pub same-as-itself : (s : Side) → sameSide s s ≡ true
-same-as-itself A = refl
-same-as-itself B = refl
-
--- A certificate's side number is its side's.
-pub number-of-side : (n : ℕ) → n ≤ 1 → n ≡ sideNumber (sideFrom n)
-number-of-side zero h = refl
-number-of-side (suc zero) h = refl
-number-of-side (suc (suc n)) h = absurd (not-suc-le-zero (le-of-suc-le-suc h))
 
 module _ {next : ℕ → ℕ → ℕ} {looms : List Seat} {start : ℕ} {R : Rules} (given : Fitted next looms start R) where
   -- Loom k's number for its side.
@@ -67,7 +37,7 @@ module _ {next : ℕ → ℕ → ℕ} {looms : List Seat} {start : ℕ} {R : Rul
   -- not in it could begin one from the start, and end this one, with the same state.
   pub every-loom-appears : (X : Side) → (InSet next looms start (sideNumber X) start → ⊥) → (Z : Side) (us : List ℕ) →
       Order looms (sideNumber Z) us → reached next looms start us ≡ start → (j : ℕ) → j < length looms → sideOf looms j ≡ X → times j us ≡ 0 → ⊥
-  every-loom-appears X not-in Z us order back j here side absent = by-first (either Z X)
+  every-loom-appears X not-in Z us order back j here side absent = by-first (same-or-other Z X)
     where
       by-first : (Z ≡ X) ⊎ (Z ≡ other X) → ⊥
       by-first (inl e) = not-in (us, (rw e at order), back)
@@ -83,7 +53,7 @@ module _ {next : ℕ → ℕ → ℕ} {looms : List Seat} {start : ℕ} {R : Rul
 
   -- In the set of X the cell decides for X.
   pub decides : (X : Side) (q : ℕ) → InSet next looms start (sideNumber X) q → decided R q ≡ X
-  decides X q member = by-side (either X (R .leading)) (R .inLeading q) refl
+  decides X q member = by-side (same-or-other X (R .leading)) (R .inLeading q) refl
     where
       by-side : (X ≡ R .leading) ⊎ (X ≡ other (R .leading)) → (b : Bool) → R .inLeading q ≡ b → cond b (R .leading) (other (R .leading)) ≡ X
       by-side (inl e) true t = sym e
@@ -104,7 +74,7 @@ module _ {next : ℕ → ℕ → ℕ} {looms : List Seat} {start : ℕ} {R : Rul
   -- Where the lone yielding loom is not in an order, the order is not of its side.
   pub leads-without : (k : ℕ) (X : Side) (us : List ℕ) → R .yieldsAlone ≡ true → k < length looms → sideOf looms k ≡ other (R .leading) →
       Order looms (sideNumber X) us → times k us ≡ 0 → X ≡ R .leading
-  leads-without k X us alone here yields order absent = by-side (either X (R .leading))
+  leads-without k X us alone here yields order absent = by-side (same-or-other X (R .leading))
     where
       by-side : (X ≡ R .leading) ⊎ (X ≡ other (R .leading)) → X ≡ R .leading
       by-side (inl e) = e

@@ -25,11 +25,11 @@ unfolding namesAct within actOf
 named-alike looms e few = go (decLt e firstRestart) (decLt e entryOfAll) (decLt entryOfAll e)
   where
     go : Dec (e < firstRestart) → Dec (e < entryOfAll) → Dec (entryOfAll < e) → namesAct looms e ≡ isNamed looms (actOf e)
-    go (yes step) _ _ = simp (lt-ltb e 16 step, lt-leb 16 e step, ne-eqb e 32 (λ h. omega arith), or-false)
+    go (yes step) _ _ = simp (lt-ltb e firstRestart step, lt-leb firstRestart e step, ne-eqb e entryOfAll (λ h. omega arith), or-false)
     go (no restart) (yes below) _ =
-        simp (le-ltb e looms (omega arith), le-ltb e 16 (omega arith), lt-ltb e 32 below, le-leb 16 e (omega arith), ne-eqb e 32 (λ h. omega arith), or-false)
+        simp (le-ltb e looms (omega arith), le-ltb e firstRestart (omega arith), lt-ltb e entryOfAll below, le-leb firstRestart e (omega arith), ne-eqb e entryOfAll (λ h. omega arith), or-false)
         (restart-of-a-loom looms e (omega arith))
     go (no restart) (no past) (yes beyond) =
-        simp (le-ltb e looms (omega arith), le-ltb e 16 (omega arith), le-ltb e 32 (omega arith), le-leb 16 e (omega arith), le-ltb e (16 + looms) (omega arith), ne-eqb e 32 (λ h. omega arith))
+        simp (le-ltb e looms (omega arith), le-ltb e firstRestart (omega arith), le-ltb e entryOfAll (omega arith), le-leb firstRestart e (omega arith), le-ltb e (firstRestart + looms) (omega arith), ne-eqb e entryOfAll (λ h. omega arith))
     go (no restart) (no past) (no all) =
-        simp (le-ltb e looms (omega arith), le-ltb e 16 (omega arith), le-ltb e 32 (omega arith), le-leb 16 e (omega arith), le-ltb e (16 + looms) (omega arith), eq-eqb e 32 (omega arith))
+        simp (le-ltb e looms (omega arith), le-ltb e firstRestart (omega arith), le-ltb e entryOfAll (omega arith), le-leb firstRestart e (omega arith), le-ltb e (firstRestart + looms) (omega arith), eq-eqb e entryOfAll (omega arith))

@@ -7,7 +7,6 @@ use loom::Loom;
 use loom::Said;
 use loom::Shared;
 ghost use mathlib.Core.Path.{_≡_};
-ghost use mathlib.Core.List.{[], _∷_};
 ghost use lib.ListN.{length};
 ghost use Rattle.recording.specs.Check.{areaOf};
 ghost use Rattle.group.specs.Open.{openOf, pieces};

@@ -5,9 +5,6 @@ use loom::Lead;
 use loom::Loom;
 use loom::Shared;
 ghost use mathlib.Core.Path.{_≡_};
-ghost use Rattle.loom.specs.Looms.{rulesOf};
-ghost use Rattle.group.specs.Step.{stepOnOf};
-ghost use Rattle.boundary.specs.Groups.{inHalf};
 ghost use Rattle.boundary.specs.Records.{leadFrom, memoryFrom, ownFrom, withMemory, withOwn, LentSteps};
 
 // What the loom goes by: start, leading side, its set, and whether the yielding side has one loom.

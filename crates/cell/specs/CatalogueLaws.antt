@@ -2,10 +2,10 @@
 -- Assumes nothing.
 use Prim.Native.Nat.{ℕ, zero, suc, _+_, _-_, _*_, _≤_, _<_}
 use mathlib.Core.Path.{_≡_, refl, sym, ap, ap₂, subst, _∙_}
-use mathlib.Core.Logic.{_⊎_, inl, inr, ⊎-elim}
+use mathlib.Core.Logic.{_⊎_, ⊎-elim}
 use mathlib.Core.Bool.{Bool, true, false, cond}
 use mathlib.Core.List.{List, [], _∷_, _++_}
-use native.Mathlib.Nat.{sub-self, add-zero, eq-or-lt-of-le, le-of-suc-le-suc, not-suc-le-zero, zero-mul, one-mul, add-sub-cancel-left, le-dest, add-suc, suc-add, suc-ne-zero, lt-of-not-le}
+use native.Mathlib.Nat.{add-zero, eq-or-lt-of-le, le-of-suc-le-suc, not-suc-le-zero, zero-mul, one-mul, add-sub-cancel-left, le-dest, add-suc, suc-add, suc-ne-zero}
 use native.Mathlib.Decide.{decLt}
 use native.Mathlib.Numerals.{add-one}
 use native.Mathlib.Omega.{arith}
@@ -16,7 +16,7 @@ use lib.Seq.{getD-append-seam, getD-append-add}
 use Rattle.cell.specs.Limits.{edition}
 use Rattle.cell.specs.Table.{entryOf, outsideOf}
 use Rattle.cell.specs.TableLaws.{HasForm, not-outside}
-use Rattle.cell.specs.Catalogue.{Mark, wonA, wonB, numberOf, markOf, operationZero, operationOne, afterZero, afterOne, each, tableOf, entryAt, catalogueCode, writtenUnder, catalogueRoom, Catalogued}
+use Rattle.cell.specs.Catalogue.{wonA, wonB, markOf, afterZero, afterOne, each, tableOf, entryAt, catalogueCode, writtenUnder, catalogueRoom, Catalogued}
 
 le-of-not-lt : (q n : ℕ) → ¬ (q < n) → n ≤ q
 le-of-not-lt q n h = omega arith

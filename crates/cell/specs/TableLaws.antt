@@ -1,18 +1,16 @@
 -- Laws of a table's lookup and of its form.
 -- Assumes nothing.
-use Prim.Native.Nat.{ℕ, zero, suc, _+_, _*_, _^_, _≤_, _<_, zero-le, suc-le-suc}
-use mathlib.Core.Path.{_≡_, refl, sym, ap, subst, _∙_}
+use Prim.Native.Nat.{ℕ, zero, suc, _+_, _*_, _≤_, _<_, suc-le-suc}
+use mathlib.Core.Path.{_≡_, refl, sym, ap, subst}
 use mathlib.Core.Bool.{Bool, true, false, not, cond, _||_}
 use mathlib.Core.List.{List, [], _∷_}
-use native.Mathlib.Nat.{mul-le-mul, le-of-suc-le-suc, le-refl, not-suc-le-zero, le-of-lt, suc-mul, mul-le-mul-right, lt-of-lt-of-le, add-comm, zero-lt-suc, mul-comm, le-of-eq}
+use native.Mathlib.Nat.{mul-le-mul, le-of-suc-le-suc, not-suc-le-zero, suc-mul, mul-le-mul-right, lt-of-lt-of-le, zero-lt-suc, mul-comm, le-of-eq}
 use native.Mathlib.Omega.{arith}
 use lib.Dec.{T, leb, ltb, eqb}
 use lib.ListN.{length, getD, drop, drop-of-length-le}
 use lib.Seq.{drop-cons}
 use native.Mathlib.Numerals.{add-one}
-use borrow.Author.Tests.{lt-ltb, le-ltb, le-leb, lt-leb, leb-false, ltb-false, eqb-true, eqb-false, eq-eqb, ne-eqb}
-use Rattle.cell.specs.declared.Formed.{Formed}
-use Rattle.cell.specs.declared.Moved.{Moved}
+use borrow.Author.Tests.{lt-ltb, le-ltb, le-leb, lt-leb, leb-false, ltb-false, eqb-true, eq-eqb, ne-eqb}
 use Rattle.cell.specs.declared.Moved.the-variants.{To, Refused}
 use Rattle.cell.specs.Limits.{edition}
 use Rattle.cell.specs.Table.{position, entryOf, nextOf, firstOutside, outsideOf, formed, formOf}

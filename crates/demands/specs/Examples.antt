@@ -6,15 +6,15 @@ use mathlib.Core.Path.{_≡_, refl}
 use mathlib.Core.List.{List, [], _∷_, _++_, map}
 use Rattle.sets.specs.Sets.{bit, members, lowestOf}
 use Rattle.cell.specs.Table.{firstOutside, formOf}
-use Rattle.recording.specs.declared.Seat.{Seat}
 use Rattle.recording.specs.declared.Certificate.{Certificate}
 use Rattle.recording.specs.Check.{firstMisfit, loomsFault, faultOf, verdictOf, judgedOf}
 use Rattle.recording.specs.Words.{advanced, unionOf, firstBy, lastBy, wordFrom, filled, setOf}
-use Rattle.recording.specs.Known.{ofA, ofB, certificateOf, sizeTwo, returns, lateReturn}
+use Rattle.recording.specs.Known.{certificateOf, sizeTwo, returns, lateReturn}
 use Rattle.loom.specs.declared.Side.the-variants.{A, B}
 use Rattle.loom.specs.Turn.{turnOf, afterPosted, afterLooking}
 use Rattle.agreement.specs.Machine.{Event, posted, applied, answered, withPost, withSaid}
 use Rattle.agreement.specs.Agreed.{Agreed}
+use Rattle.agreement.specs.Certificates.{pair, three, threeExchanged}
 use Rattle.agreement.specs.Refused.{Disagrees, disagree}
 use Rattle.group.specs.declared.Numbers.{Numbers}
 use Rattle.group.specs.declared.Group.{Group}
@@ -31,10 +31,6 @@ bothPieces = pieces 501 733
 -- Steps of these looms, one after the other.
 abbrev pub steps : List ℕ → List Act
 steps = map loomSteps
-
--- The looms A0 B1.
-abbrev pub pair : List Seat
-pair = ofA 0 ∷ ofB 1 ∷ []
 
 -- The table of sticky: 0→1 1→1 2→2; 0→2 1→1 2→2.
 abbrev pub sticky : List ℕ
@@ -84,14 +80,6 @@ returns-agreed = demand-three returns 3 2 (certificateOf 0 pair) bothPieces 8 re
 -- A group filled in without the check, with the sets that the check would give it.
 abbrev pub unchecked : List ℕ → ℕ → ℕ → Certificate → Numbers → ℕ → Group
 unchecked table states operations c numbers room = freshGroup c (setsFrom (judgedOf table states operations c room)) numbers
-
--- The looms A0 B1 B1.
-abbrev pub three : List Seat
-three = ofA 0 ∷ ofB 1 ∷ ofB 1 ∷ []
-
--- The looms B0 A1 A1.
-abbrev pub threeExchanged : List Seat
-threeExchanged = ofB 0 ∷ ofA 1 ∷ ofA 1 ∷ []
 
 -- The opening is refused with this code; and on a group filled in without the check the acts leave these events, which do not agree.
 abbrev pub GoesWrong : List ℕ → ℕ → ℕ → Certificate → Numbers → ℕ → ℕ → List Act → List Event → Type 0

@@ -16,13 +16,13 @@ use Rattle.loom.specs.declared.Side.{Side}
 use Rattle.loom.specs.declared.Place.{Place}
 use Rattle.loom.specs.declared.Place.the-variants.{Begin, Posted, Looking, Ready, Applied, Bound, Answered}
 use Rattle.loom.specs.declared.Shared.{Shared}
-use Rattle.loom.specs.Turn.{Rules, Turn, turnOf}
+use Rattle.loom.specs.Turn.{Rules, Turn, turnOf, hasAnswered}
 use Rattle.loom.specs.Looms.{counted, movedTo}
-use Rattle.agreement.specs.LogLaws.{cell-kept}
+use Rattle.loom.specs.SidesLaws.{cell-kept}
 use Rattle.group.specs.declared.Group.{Group}
 use Rattle.group.specs.declared.Stepped.{Stepped}
 use Rattle.group.specs.Group.{loomAt, numberOf, groupRules, withLoom, withShared, noLoom, tooMany, restartedAt, restartedBelow}
-use Rattle.group.specs.Step.{isUnfit, hasAnswered, stepOnOf, settled, stepOf, refused, restarted, restartOf, restartAllOf}
+use Rattle.group.specs.Step.{isUnfit, stepOnOf, settled, stepOf, refused, restarted, restartOf, restartAllOf}
 use Rattle.demands.specs.Acts.{Act, loomSteps, loomRestarts, allRestart, History, actedOn, historyAfter}
 use Rattle.demands.specs.Kept.{Kept}
 use Rattle.demands.specs.KeptLaws.{kept-by-act}

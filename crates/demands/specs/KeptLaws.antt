@@ -9,12 +9,12 @@ use lib.ListN.{getD, set, length-set}
 use Rattle.cell.specs.Table.{entryOf}
 use Rattle.loom.specs.declared.Loom.{Loom}
 use Rattle.loom.specs.declared.Shared.{Shared}
-use Rattle.loom.specs.Turn.{Rules}
+use Rattle.loom.specs.Turn.{Rules, hasAnswered}
 use Rattle.loom.specs.Looms.{turnedOf}
 use Rattle.group.specs.declared.Group.{Group}
 use Rattle.group.specs.declared.Outcome.{Outcome}
 use Rattle.group.specs.Group.{emptyLoom, loomAt, withLoom, withShared, noLoom, tooMany, restartedAt, restartedBelow}
-use Rattle.group.specs.Step.{isUnfit, hasAnswered, unmoved, taken, stepOnOf, settled, ownStep, stepOf, refused, restarted, restartOf, restartAllOf}
+use Rattle.group.specs.Step.{isUnfit, unmoved, taken, stepOnOf, settled, ownStep, stepOf, refused, restarted, restartOf, restartAllOf}
 use Rattle.demands.specs.Acts.{Act, loomSteps, loomRestarts, allRestart, History, actedOn, historyAfter}
 use Rattle.demands.specs.Kept.{SameLoom, Kept}
 

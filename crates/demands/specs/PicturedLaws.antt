@@ -21,15 +21,15 @@ use Rattle.loom.specs.declared.Place.the-variants.{Begin, Posted, Looking, Read
 use Rattle.loom.specs.declared.Loom.{Loom}
 use Rattle.loom.specs.declared.Shared.{Shared}
 use Rattle.loom.specs.Sides.{sideNumber, sideFrom, sameSide, register}
-use Rattle.loom.specs.Turn.{Rules, Turn, turnOf}
+use Rattle.loom.specs.Turn.{Rules, Turn, turnOf, hasAnswered}
 use Rattle.loom.specs.Looms.{movedTo, restartedOf}
+use Rattle.loom.specs.SidesLaws.{register-written}
 use Rattle.agreement.specs.Machine.{Event, step, State, sideOf, changedAt, withPost, withSaid, turned, steppedFrom, stepped, acted, after}
 use Rattle.agreement.specs.MachineLaws.{changed-other, stepped-no-loom, stepped-loom, stepped-answered}
-use Rattle.agreement.specs.LogLaws.{register-written}
 use Rattle.group.specs.declared.Group.{Group}
 use Rattle.group.specs.Group.{emptyLoom, loomAt, numberOf, countOf, yieldingOf, leadOf, groupRules, withLoom, withShared}
 use Rattle.group.specs.ActsLaws.{restarted-each}
-use Rattle.group.specs.Step.{hasAnswered, stepOf}
+use Rattle.group.specs.Step.{stepOf}
 use Rattle.demands.specs.Acts.{Act, loomSteps, loomRestarts, allRestart, History, noted, steppedTo, actedOn, historyAfter}
 use Rattle.demands.specs.Kept.{Kept}
 use Rattle.demands.specs.KeptLaws.{kept-by-act}

@@ -13,7 +13,7 @@ use Rattle.recording.specs.Recording.{InSet, Recording}
 use Rattle.loom.specs.declared.Side.{Side}
 use Rattle.loom.specs.declared.Side.the-variants.{A, B}
 use Rattle.loom.specs.Sides.{sideNumber}
-use Rattle.agreement.specs.Teams.{other-other}
+use Rattle.loom.specs.SidesLaws.{other-other}
 use Rattle.agreement.specs.Fitted.{Renders}
 use Rattle.group.specs.declared.Sets.{Sets}
 use Rattle.group.specs.Group.{setOf, yieldingOf, leadingOf}

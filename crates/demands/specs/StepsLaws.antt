@@ -4,7 +4,7 @@ use Prim.Native.Nat.{ℕ, _+_, _≤_, _<_}
 use native.Mathlib.Omega.{arith}
 use native.Mathlib.Decide.{decLt}
 use mathlib.Core.Path.{_≡_, refl, ap}
-use mathlib.Core.Bool.{Bool, true, false}
+use mathlib.Core.Bool.{Bool, true, false, not}
 use mathlib.Core.List.{List, [], _∷_}
 use lib.Dec.{eqb, eqb→eq}
 use lib.ListN.{length, getD, set}
@@ -14,16 +14,15 @@ use Rattle.cell.specs.Table.{entryOf}
 use Rattle.recording.specs.declared.Seat.{Seat}
 use Rattle.recording.specs.Recording.{one}
 use Rattle.loom.specs.declared.Side.{Side}
-use Rattle.loom.specs.declared.Place.{Place}
-use Rattle.loom.specs.declared.Place.the-variants.{Begin, Posted, Looking, Ready, Applied, Bound, Answered}
 use Rattle.loom.specs.declared.Loom.{Loom}
 use Rattle.loom.specs.Looms.{movedTo, restartedOf}
-use Rattle.agreement.specs.Steps.{unanswered, stepsOf as machineSteps, Unrestarted as MachineUnrestarted}
+use Rattle.loom.specs.Turn.{hasAnswered}
+use Rattle.agreement.specs.Steps.{stepsOf as machineSteps, Unrestarted as MachineUnrestarted}
 use Rattle.agreement.specs.StepsLaws.{rank, rank-at-most-six, rank-rises}
 use Rattle.group.specs.declared.Group.{Group}
 use Rattle.group.specs.Group.{emptyLoom, loomAt, numberOf, groupRules, withLoom, withShared}
 use Rattle.group.specs.ActsLaws.{restarted-each}
-use Rattle.group.specs.Step.{hasAnswered, stepOf, restartOf, restartAllOf}
+use Rattle.group.specs.Step.{stepOf, restartOf, restartAllOf}
 use Rattle.demands.specs.Acts.{Act, loomSteps, loomRestarts, allRestart, History, actedOn, historyAfter}
 use Rattle.demands.specs.Fits.{WellFormed, Fits}
 use Rattle.demands.specs.FitsLaws.{turnIn, step-of-none, step-of-answered, step-of-unanswered, restart-of-none, restart-of-one, restart-of-all, fits-by-act}
@@ -61,16 +60,6 @@ within-with-loom n g k l room all new j below = by-test (eqb j k) refl
     by-test true e = rw (eqb-true j k e, getD-set-same (g .looms) k l emptyLoom room) new
     by-test false e = rw (getD-set-other (g .looms) k j l emptyLoom (eqb-false j k e)) (all j below)
 
--- A loom that has not answered gains one in rank at least by its turn.
-going-is-unanswered : (p : Place) → hasAnswered p ≡ false → one (unanswered p) ≡ 1
-going-is-unanswered Begin e = refl
-going-is-unanswered Posted e = refl
-going-is-unanswered Looking e = refl
-going-is-unanswered Ready e = refl
-going-is-unanswered Applied e = refl
-going-is-unanswered (Bound x) e = refl
-going-is-unanswered (Answered x) e = let z : one false ≡ 1 = cc in z
-
 module _ (table : List ℕ) (states operations : ℕ) (looms : List Seat) (good : WellFormed table states operations looms) (g : Group)
     (fits : Fits states looms g) (all : AllWithin (length looms) g) where
   module _ (k : ℕ) where
@@ -78,7 +67,7 @@ module _ (table : List ℕ) (states operations : ℕ) (looms : List Seat) (good 
     turn-within-rank : k < length looms → hasAnswered (loomAt g k .place) ≡ false → WithinRank (movedTo (loomAt g k) (turnIn table states g k .place))
     turn-within-rank here going =
         let rises = rank-rises (groupRules g) (loomAt g k .side) (numberOf (g .numbers) (loomAt g k .side)) (entryOf table states (loomAt g k .operation)) (g .shared) (loomAt g k .place) in
-        omega (arith, all k here, going-is-unanswered (loomAt g k .place) going, rises)
+        omega (arith, all k here, ap (λ t. one (not t)) going, rises)
 
     within-by-step : AllWithin (length looms) (stepOf table states operations g k .group)
     within-by-step = by-loom (decLt k (length looms))

@@ -1,21 +1,18 @@
 -- A file is taken exactly where each of its fields is; and what is known of a file that is taken.
 -- Assumes nothing.
-use Prim.Native.Nat.{ℕ, zero, suc, _+_, _*_, _≤_, _<_, _^_}
+use Prim.Native.Nat.{ℕ, _+_, _*_, _≤_, _<_}
 use native.Mathlib.Nat.{mul-le-mul}
 use native.Mathlib.Omega.{arith}
-use mathlib.Core.Path.{_≡_, refl, sym, ap, _∙_}
+use mathlib.Core.Path.{_≡_, refl}
 use mathlib.Core.Bool.{Bool, true, false, _||_}
 use mathlib.Core.List.{List}
 use mathlib.Core.Logic.{_⊎_, inl, inr, ⊎-elim}
-use lib.Dec.{leb, ltb, eqb}
+use lib.Dec.{ltb, eqb}
 use lib.ListN.{length}
-use borrow.Author.Tests.{leb-true, ltb-true, eqb-true}
+use borrow.Author.Tests.{ltb-true, eqb-true}
 use Rattle.cell.specs.Limits.{Limits}
-use Rattle.xdr.specs.declared.Field.{Field}
-use Rattle.xdr.specs.declared.Field.the-variants.{Is, Not}
-use Rattle.xdr.specs.Field.{wordAt, within, fieldAt, andThen, endAt}
-use Rattle.xdr.specs.FieldLaws.{Passed, Taken, then-both, then-passes, within-taken, field-taken, run-taken, end-taken}
-use Rattle.xdr.specs.Opaque.{opaqueAt}
+use Rattle.xdr.specs.Field.{wordAt, within, fieldAt, endAt}
+use Rattle.xdr.specs.FieldLaws.{Passed, then-both, then-passes, within-taken, field-taken, run-taken, end-taken}
 use Rattle.format.specs.declared.Plan.{Plan}
 use Rattle.format.specs.declared.Items.the-variants.{Entries, Looms, Acts}
 use Rattle.format.specs.Layout.{planOf}

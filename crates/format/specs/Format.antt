@@ -4,12 +4,11 @@
 use Prim.Native.Nat.{ℕ, zero, suc, _+_, _*_, _^_}
 use mathlib.Core.Bool.{Bool, true, _&&_, _||_}
 use mathlib.Core.List.{List, [], _∷_}
-use lib.Dec.{leb, ltb, eqb}
+use lib.Dec.{ltb, eqb}
 use Rattle.cell.specs.Limits.{Limits}
 use Rattle.recording.specs.Recording.{sideCount}
 use Rattle.recording.specs.declared.Seat.{Seat}
 use Rattle.xdr.specs.declared.Field.{Field}
-use Rattle.xdr.specs.declared.Field.the-variants.{Is, Not}
 use Rattle.xdr.specs.Field.{judged, wordAt, within, fieldAt, andThen, run, endAt}
 use Rattle.xdr.specs.Opaque.{opaqueAt}
 use Rattle.format.specs.declared.Plan.{Plan}

@@ -1,17 +1,15 @@
 -- What the items and the parts of an order file are known to be where they are taken.
 -- Assumes nothing.
-use Prim.Native.Nat.{ℕ, zero, suc, _+_, _-_, _*_, _≤_, _<_}
+use Prim.Native.Nat.{ℕ, zero, suc, _+_, _-_, _≤_, _<_}
 use native.Mathlib.Numerals.{sub-one}
 use native.Mathlib.Omega.{arith}
-use mathlib.Core.Path.{_≡_, refl, sym, ap, _∙_}
-use mathlib.Core.Bool.{Bool, true, false}
+use mathlib.Core.Path.{_≡_, refl}
 use mathlib.Core.List.{List}
 use lib.Dec.{eqb}
 use lib.ListN.{length}
 use borrow.Author.Tests.{lt-ltb}
 use Rattle.recording.specs.Recording.{one, sideCount}
 use Rattle.recording.specs.declared.Seat.{Seat}
-use Rattle.xdr.specs.declared.Field.{Field}
 use Rattle.xdr.specs.declared.Field.the-variants.{Is, Not}
 use Rattle.xdr.specs.Field.{wordAt, within, fieldAt}
 use Rattle.xdr.specs.FieldLaws.{field-inside, then-taken}

@@ -1,11 +1,10 @@
 -- The plan of a file, from words that were read one after the other.
 -- Assumes nothing.
-use Prim.Native.Nat.{ℕ, _+_, _*_}
-use mathlib.Core.Path.{_≡_, refl}
+use Prim.Native.Nat.{ℕ, _+_}
+use mathlib.Core.Path.{_≡_}
 use mathlib.Core.List.{List}
 use Rattle.xdr.specs.Field.{wordAt}
 use Rattle.xdr.specs.Opaque.{padOf}
-use Rattle.format.specs.declared.Plan.{Plan}
 use Rattle.format.specs.Layout.{startFrom, numbersFrom, planOf}
 
 -- Each number is rewritten by the word that it was read from, the last first, since its place names the earlier ones.

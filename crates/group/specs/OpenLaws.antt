@@ -1,13 +1,11 @@
 -- Laws of an opening: one for each way that it ends, and what an opened group is.
 -- Assumes nothing.
-use Prim.Native.Nat.{ℕ, zero, suc, _+_, _<_, _≤_}
+use Prim.Native.Nat.{ℕ, zero, suc, _<_, _≤_}
 use native.Mathlib.Omega.{arith}
 use native.Mathlib.Nat.{not-suc-le-zero, le-of-suc-le-suc}
-use native.Mathlib.Numerals.{add-one}
 use mathlib.Core.Path.{_≡_, refl, sym, ap, subst, _∙_}
-use mathlib.Core.Bool.{Bool, true, false}
 use mathlib.Core.List.{List, [], _∷_}
-use lib.ListN.{length, getD, set, take, replicate, length-take}
+use lib.ListN.{length, getD, set, replicate}
 use lib.Seq.{getD-take}
 use borrow.Author.Tests.{eq-eqb, ne-eqb}
 use Rattle.cell.specs.Limits.{edition}
@@ -19,11 +17,9 @@ use Rattle.recording.specs.Check.{loomsOf, firstMisfit, judgedOf}
 use Rattle.recording.specs.AcceptedLaws.{past-faults}
 use Rattle.recording.specs.CheckLaws.{as-many}
 use Rattle.recording.specs.AdmittedLaws.{Admitted, admitted, all-fitted}
-use Rattle.loom.specs.declared.Loom.{Loom}
 use Rattle.group.specs.declared.Numbers.{Numbers}
-use Rattle.group.specs.declared.Opened.{Opened}
 use Rattle.group.specs.Group.{emptyLoom}
-use Rattle.group.specs.Open.{loomOf, slotsOf, freshGroup, unopened, opened, setsFrom, openedBy, openOf, Held}
+use Rattle.group.specs.Open.{loomOf, slotsOf, freshGroup, unopened, opened, setsFrom, openedBy, Held}
 
 -- Slots with no loom are all empty.
 pub slots-empty : (seats : List Seat) → slotsOf 0 seats ≡ replicate (length seats) emptyLoom

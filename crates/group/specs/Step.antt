@@ -9,13 +9,11 @@ use Rattle.cell.specs.declared.Moved.{Moved}
 use Rattle.cell.specs.declared.Moved.the-variants.{To, Refused}
 use Rattle.cell.specs.Limits.{edition}
 use Rattle.cell.specs.Table.{entryOf, outsideOf}
-use Rattle.loom.specs.declared.Place.{Place}
-use Rattle.loom.specs.declared.Place.the-variants.{Begin, Posted, Looking, Ready, Applied, Bound, Answered}
 use Rattle.loom.specs.declared.Loom.{Loom}
 use Rattle.loom.specs.declared.Shared.{Shared}
 use Rattle.loom.specs.declared.Said.the-variants.{Nothing}
 use Rattle.loom.specs.declared.Turned.{Turned}
-use Rattle.loom.specs.Turn.{Rules}
+use Rattle.loom.specs.Turn.{Rules, hasAnswered}
 use Rattle.loom.specs.Looms.{turnedOf}
 use Rattle.group.specs.declared.Group.{Group}
 use Rattle.group.specs.declared.Permit.{Permit}
@@ -39,16 +37,6 @@ isUnfit table states operations o q =
 -- The state after operation o in state q, where group and table fit.
 abbrev pub fittedOf : List ℕ → ℕ → ℕ → ℕ → ℕ → Moved
 fittedOf table states operations o q = cond (isUnfit table states operations o q) Refused (To (entryOf table states o q))
-
--- "31: that loom has answered."
-abbrev pub hasAnswered : Place → Bool
-hasAnswered Begin = false
-hasAnswered Posted = false
-hasAnswered Looking = false
-hasAnswered Ready = false
-hasAnswered Applied = false
-hasAnswered (Bound s) = false
-hasAnswered (Answered s) = true
 
 -- The order of the two refusals: 32, then 31. Granted is the state that the operation leads to.
 abbrev pub permitOf : Moved → Bool → Permit

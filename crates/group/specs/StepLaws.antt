@@ -1,15 +1,14 @@
 -- Laws of a step: one for each way that it ends.
 -- Assumes nothing.
-use Prim.Native.Nat.{ℕ, zero, suc, _+_, _*_, _≤_, _<_}
+use Prim.Native.Nat.{ℕ, _*_, _≤_, _<_}
 use native.Mathlib.Omega.{arith}
 use native.Mathlib.Nat.{suc-mul, mul-comm, mul-le-mul, le-refl, lt-of-lt-of-le}
 use mathlib.Core.Path.{_≡_, refl, sym, ap, subst, _∙_}
 use mathlib.Core.Bool.{Bool, true, false, cond}
 use mathlib.Core.List.{List}
-use lib.Dec.{eqb, leb}
+use lib.Dec.{leb}
 use lib.ListN.{length}
 use borrow.Author.Tests.{lt-ltb, le-ltb, le-leb, lt-leb, leb-true, leb-false, eq-eqb, ne-eqb}
-use Rattle.cell.specs.declared.Moved.{Moved}
 use Rattle.cell.specs.declared.Moved.the-variants.{To, Refused}
 use Rattle.cell.specs.Limits.{edition}
 use Rattle.cell.specs.Table.{position, entryOf, nextOf}
@@ -17,17 +16,15 @@ use Rattle.cell.specs.TableLaws.{refused-entry, moved-to}
 use Rattle.loom.specs.declared.Loom.{Loom}
 use Rattle.loom.specs.declared.Lead.{Lead}
 use Rattle.loom.specs.declared.Shared.{Shared}
-use Rattle.loom.specs.declared.Turned.{Turned}
-use Rattle.loom.specs.Turn.{Rules}
+use Rattle.loom.specs.Turn.{Rules, hasAnswered}
 use Rattle.loom.specs.Looms.{rulesOf, turnedOf}
 use Rattle.loom.specs.LoomsLaws.{turned-of-next}
 use Rattle.group.specs.declared.Group.{Group}
 use Rattle.group.specs.declared.Permit.the-variants.{Granted, Denied}
 use Rattle.group.specs.declared.Outcome.{Outcome}
 use Rattle.group.specs.declared.Stepped.{Stepped}
-use Rattle.group.specs.declared.Restarted.{Restarted}
 use Rattle.group.specs.Group.{loomAt, numberOf, leadOf, groupRules, withLoom, withShared, noLoom, restartedAt, restartedBelow}
-use Rattle.group.specs.Step.{isUnfit, fittedOf, hasAnswered, permitOf, unmoved, taken, stepOnOf, refused, settled, ownStep, stepOf, restarted, restartOf, restartAllOf}
+use Rattle.group.specs.Step.{isUnfit, fittedOf, permitOf, unmoved, taken, stepOnOf, refused, settled, ownStep, stepOf, restarted, restartOf, restartAllOf}
 
 -- Whether group and table fit, one law for each way that it ends.
 module _ (table : List ℕ) (states operations o q : ℕ) where

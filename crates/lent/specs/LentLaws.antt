@@ -7,10 +7,10 @@ use mathlib.Core.List.{List}
 use Rattle.loom.specs.declared.Loom.{Loom}
 use Rattle.loom.specs.declared.Shared.{Shared}
 use Rattle.loom.specs.declared.Turned.{Turned}
-use Rattle.loom.specs.Turn.{Rules}
+use Rattle.loom.specs.Turn.{Rules, hasAnswered}
 use Rattle.cell.specs.Table.{entryOf}
 use Rattle.loom.specs.Looms.{turnedOf}
-use Rattle.group.specs.Step.{isUnfit, hasAnswered, unmoved, taken, stepOnOf}
+use Rattle.group.specs.Step.{isUnfit, unmoved, taken, stepOnOf}
 use Rattle.lent.specs.Lent.{left, together, returnedOf, leftOf}
 
 -- Of an outcome chosen among two refusals and a turn: a code other than 0 is a refusal's.

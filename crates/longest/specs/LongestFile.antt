@@ -1,7 +1,7 @@
 -- A file of 20,648 bytes that is taken: 64 states, 16 operations, every entry 0; eight looms, the first of side B; labels of 32 spaces; a
 -- schedule of 4,096 steps of loom 0.
 -- Assumes nothing.
-use Prim.Native.Nat.{ℕ, zero, suc, _+_, _-_, _*_, _≤_, _<_}
+use Prim.Native.Nat.{ℕ, _+_, _-_, _*_, _≤_, _<_}
 use native.Mathlib.Omega.{arith}
 use mathlib.Core.Path.{_≡_, refl, sym, ap, _∙_}
 use mathlib.Core.Bool.{Bool, true}
@@ -10,8 +10,7 @@ use lib.ListN.{length, getD, replicate, length-append, length-replicate, getD-re
 use lib.Seq.{getD-append-add}
 use borrow.Author.Tests.{le-leb}
 use Rattle.cell.specs.Limits.{edition}
-use Rattle.xdr.specs.declared.Field.{Field}
-use Rattle.xdr.specs.declared.Field.the-variants.{Is, Not}
+use Rattle.xdr.specs.declared.Field.the-variants.{Is}
 use Rattle.xdr.specs.Field.{wordAt, within, fieldAt, run}
 use Rattle.xdr.specs.FieldLaws.{Passed, word-inside, field-takes, run-takes, end-takes}
 use Rattle.xdr.specs.Opaque.{padOf, all, opaqueAt}

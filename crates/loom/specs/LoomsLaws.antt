@@ -2,13 +2,13 @@
 -- Assumes nothing.
 use Prim.Native.Nat.{ℕ, _≤_}
 use native.Mathlib.Omega.{arith}
-use mathlib.Core.Path.{_≡_, refl, sym, ap, _∙_}
+use mathlib.Core.Path.{_≡_, sym, ap, _∙_}
 use Rattle.loom.specs.declared.Place.{Place}
 use Rattle.loom.specs.declared.Loom.{Loom}
 use Rattle.loom.specs.declared.Shared.{Shared}
 use Rattle.loom.specs.declared.Said.{Said}
 use Rattle.loom.specs.declared.Turned.{Turned}
-use Rattle.loom.specs.Turn.{Rules, Turn, turnOf}
+use Rattle.loom.specs.Turn.{Rules, turnOf}
 use Rattle.loom.specs.TurnLaws.{turn-of-next}
 use Rattle.loom.specs.Looms.{mostSteps, counted, movedTo, handedBack, turnedOf}
 

@@ -1,7 +1,7 @@
 -- One step of one loom, by the table of document 01, "One loom's steps".
 -- Assumes nothing.
 use Prim.Native.Nat.{ℕ, zero, suc}
-use mathlib.Core.Bool.{Bool, cond, _&&_}
+use mathlib.Core.Bool.{Bool, true, false, cond, _&&_}
 use lib.Dec.{eqb}
 use Rattle.loom.specs.declared.Side.{Side}
 use Rattle.loom.specs.declared.Place.{Place}
@@ -58,3 +58,13 @@ turnOf R s v op m Ready = record { place = Applied; shared = withCell m (op (m .
 turnOf R s v op m Applied = record { place = Bound (decided R (m .cell)); shared = m; said = Nothing }
 turnOf R s v op m (Bound x) = record { place = Answered x; shared = m; said = Answer x (register m x) }
 turnOf R s v op m (Answered x) = record { place = Answered x; shared = m; said = Nothing }
+
+-- "31: that loom has answered."
+abbrev pub hasAnswered : Place → Bool
+hasAnswered Begin = false
+hasAnswered Posted = false
+hasAnswered Looking = false
+hasAnswered Ready = false
+hasAnswered Applied = false
+hasAnswered (Bound s) = false
+hasAnswered (Answered s) = true

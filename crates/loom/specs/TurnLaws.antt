@@ -3,14 +3,13 @@
 use Prim.Native.Nat.{ℕ, zero, suc}
 use mathlib.Core.Path.{_≡_, refl, sym, ap, _∙_}
 use mathlib.Core.Bool.{Bool, true, false, cond, _&&_}
-use lib.Dec.{eqb}
 use borrow.Author.Tests.{eq-eqb, ne-eqb}
 use Rattle.loom.specs.declared.Side.{Side}
 use Rattle.loom.specs.declared.Place.{Place}
 use Rattle.loom.specs.declared.Place.the-variants.{Begin, Posted, Looking, Ready, Applied, Bound, Answered}
 use Rattle.loom.specs.declared.Shared.{Shared}
 use Rattle.loom.specs.Sides.{other, sameSide}
-use Rattle.loom.specs.Turn.{Rules, Turn, decided, looks, afterPosted, afterLooking, turnOf}
+use Rattle.loom.specs.Turn.{Rules, decided, looks, afterPosted, afterLooking, turnOf}
 
 -- In its set the cell decides for the leading side.
 pub decided-leading : (R : Rules) (q : ℕ) → R .inLeading q ≡ true → R .leading ≡ decided R q
@@ -23,10 +22,6 @@ decided-yielding R q s h e = e ∙ sym (ap (λ t. cond t (R .leading) (other (R 
 -- A loom looks where the yielding side has one loom, and it is of that side.
 pub looks-alone : (R : Rules) (s : Side) (t : Bool) → R .yieldsAlone ≡ true → t ≡ sameSide s (other (R .leading)) → t ≡ looks R s
 looks-alone R s t h e = e ∙ sym (ap (λ a. a && sameSide s (other (R .leading))) h)
-
--- No loom looks where the yielding side has several.
-pub looks-several : (R : Rules) (s : Side) → R .yieldsAlone ≡ false → false ≡ looks R s
-looks-several R s h = sym (ap (λ a. a && sameSide s (other (R .leading))) h)
 
 -- From posted, away from the start: bound to the side decided by the cell.
 pub posted-away : (R : Rules) (s x : Side) (q : ℕ) → (q ≡ R .start → ⊥) → x ≡ decided R q → Bound x ≡ afterPosted R s q

@@ -2,17 +2,15 @@
 -- Assumes nothing.
 use Prim.Native.Nat.{ℕ, zero, suc, _+_, _-_, _*_, _%_, _≤_, _<_}
 use native.Mathlib.Nat.{zero-mul, add-zero}
-use native.Mathlib.Numerals.{sub-one, add-one}
+use native.Mathlib.Numerals.{add-one}
 use native.Mathlib.Omega.{arith}
 use mathlib.Core.Path.{_≡_, refl, sym, ap, _∙_}
 use mathlib.Core.List.{List, [], _∷_, _++_, append-nil}
 use lib.ListN.{length, take, drop, set, length-set, take-append-drop}
 use lib.Seq.{take-suc-set, append-snoc, drop-set-lt, drop-drop}
 use Rattle.xdr.specs.Field.{wordAt}
-use Rattle.recording.specs.declared.Seat.{Seat}
 use borrow.Author.Tests.{le-leb, lt-leb}
 use Rattle.cell.specs.Limits.{Limits}
-use Rattle.xdr.specs.declared.Field.{Field}
 use Rattle.xdr.specs.declared.Field.the-variants.{Is, Not}
 use Rattle.format.specs.Layout.{planOf}
 use Rattle.format.specs.Format.{seatAt, seatsAt, verdictOf}

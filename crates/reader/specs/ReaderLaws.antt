@@ -14,9 +14,9 @@ use borrow.Author.Tests.{leb-true, leb-false, eq-eqb, ne-eqb}
 use Rattle.xdr.specs.declared.Field.{Field}
 use Rattle.xdr.specs.declared.Field.the-variants.{Is, Not}
 use Rattle.xdr.specs.Field.{wordFits, wordAt, judged, fieldAt, run, endAt}
-use Rattle.xdr.specs.Opaque.{padOf, padded, all, opaqueAt}
+use Rattle.xdr.specs.Opaque.{padded, all, opaqueAt}
 use Rattle.xdr.specs.OpaqueLaws.{opaque-taken}
-use Rattle.reader.specs.Reader.{anything, leftOf, endOf, after, readOf}
+use Rattle.reader.specs.Reader.{anything, leftOf, endOf, readOf}
 
 -- What is handed out at p, with a test of its own: refused with the code at p where it does not pass.
 abbrev pub tested : Bool → ℕ → ℕ → Field → Field
@@ -70,26 +70,9 @@ nothing-left-is-end code s p = go (leb (length s) p) refl
     go true e = let h = leb-true (length s) p e in let z : length s - p ≡ 0 = omega (arith, h) in simp (e, eq-eqb (length s - p) 0 z)
     go false e = let h = leb-false (length s) p e in let z : (length s - p ≡ 0 → ⊥) = λ w. omega (arith, h, w) in simp (e, ne-eqb (length s - p) 0 z)
 
--- Past a part that is taken the reader stands where the next field begins.
-pub taken-moves : (s : List ℕ) (n p q : ℕ) → readOf s n p .end ≡ Is q → readOf s n p .next ≡ q
-taken-moves s n p q h = ap (λ (f : Field). after f p) h
-
--- No refusal moves the reader.
-pub refusal-stays : (s : List ℕ) (n p c q : ℕ) → readOf s n p .end ≡ Not c q → readOf s n p .next ≡ p
-refusal-stays s n p c q h = ap (λ (f : Field). after f p) h
-
 -- A part that is there lies within the file.
 pub part-inside : (s : List ℕ) (n p q : ℕ) → endOf s n p ≡ Is q → p + n ≤ length s
 part-inside s n p q h = omega (arith, leb-true (p + padded n) (length s) (opaque-taken anything 1 s n p q h .inside))
-
--- A word has no padding: where it is there the reader moves past it by its four bytes, and else stays.
-pub past-a-word : (s : List ℕ) (p : ℕ) → readOf s 4 p .next ≡ cond (wordFits s p) (p + 4) p
-unfolding opaqueAt padOf
-past-a-word s p = ap (λ (t : Bool). after (judged (wordFits s p) t (p + 4) 1 p) p) (all-anything s 4 p) ∙ past-judged (wordFits s p) (p + 4) p
-  where
-    past-judged : (reaches : Bool) (v p : ℕ) → after (judged reaches true v 1 p) p ≡ cond reaches v p
-    past-judged true v p = refl
-    past-judged false v p = refl
 
 -- The bytes of the part that is handed out pass a test where the file's do.
 pub part-bytes : (ok : ℕ → Bool) (s : List ℕ) (n p : ℕ) → all ok (take n (drop p s)) n 0 ≡ all ok s n p

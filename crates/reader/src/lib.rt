@@ -2,8 +2,7 @@
 // the work to a function on the file and the position, whose name ends in `_there`. A refusal is an answer, with its code and place, and
 // no refusal moves the reader. Callers that want no reader of their own use `read` and `part_at`.
 ghost use mathlib.Core.Path.{_≡_};
-ghost use Prim.Native.Nat.{_+_, _≤_};
-ghost use lib.ListN.{length};
+ghost use Prim.Native.Nat.{_+_};
 ghost use Rattle.reader.specs.Reader.{standing, leftOf, wordOf, endOf, after, pastOf, readOf, PartOf};
 use xdr::Field;
 

@@ -9,7 +9,6 @@ use Rattle.sets.specs.Sets.{Member, sizeOf, wordBits}
 use Rattle.recording.specs.declared.Certificate.{Certificate}
 use Rattle.recording.specs.declared.Checked.{Checked}
 use Rattle.recording.specs.AcceptedLaws as laws
-pub use Rattle.recording.specs.AcceptedLaws.{set-is-Q, sets-given, accepted}
 use Rattle.recording.specs.Check.{faultOf, setBy, checkOf}
 use Rattle.recording.specs.Clauses.{InSetOf, SharedFirst, NoneShared, ReturnsTo, RecordingOf}
 

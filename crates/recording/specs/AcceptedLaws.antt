@@ -1,7 +1,7 @@
 -- Past 2 to 9 and 40: what the check's codes, places and sets say, each by itself.
 -- Assumes nothing.
 use Prim.Native.Nat.{ℕ, _^_, _<_}
-use mathlib.Core.Path.{_≡_, refl, sym, ap, subst, _∙_}
+use mathlib.Core.Path.{_≡_, sym, ap, subst, _∙_}
 use mathlib.Core.Logic.{_↔_, _⊎_, inl, inr, ⊎-elim}
 use mathlib.Core.List.{List}
 use native.Mathlib.Decide.{ℕ-discrete}
@@ -62,12 +62,6 @@ module _ (table : List ℕ) (states operations : ℕ) (c : Certificate) (room : 
       × (checkOf table states operations c room .b ≡ sizeOf wordBits (setBy table states c 1))
   unfolding checkOf
   sizes-given = (ap (sizeOf wordBits) (sets-given .0), ap (sizeOf wordBits) (sets-given .1))
-
-  -- `check` and `judge` agree, so what follows holds of both.
-  pub check-is-judge : (checkOf table states operations c room .code ≡ judgedOf table states operations c room .code)
-      × (checkOf table states operations c room .place ≡ judgedOf table states operations c room .place)
-  unfolding checkOf
-  check-is-judge = (refl, refl)
 
   -- ---- the codes
   says : Verdict (c .start) ofA ofB setA setB (judgedOf table states operations c room .code)

@@ -9,23 +9,14 @@ use native.Mathlib.Nat.{not-suc-le-zero}
 use native.Mathlib.Omega.{arith}
 use borrow.Author.Tests.{eq-eqb, ne-eqb}
 use lib.Dec.{eqb, eqb·zero-suc}
-use lib.ListN.{length, getD, replicate, length-replicate, getD-replicate}
+use lib.ListN.{length, getD, length-replicate, getD-replicate}
 use Rattle.cell.specs.Catalogue.{tableOf, afterZero}
 use Rattle.cell.specs.CatalogueLaws.{zero-from-start, zero-of-number, one-of-number, entry-of-zero, entry-of-one}
 use Rattle.cell.specs.Table.{entryOf}
 use Rattle.recording.specs.declared.Seat.{Seat}
+use Rattle.recording.specs.CatalogueCertificate.{follower, catalogueLooms}
 use Rattle.recording.specs.OrdersLaws.{one-at-most}
 use Rattle.recording.specs.Recording.{emptySeat, sideAt, operationAt, one, times, Order, reached, InSet}
-
--- "Loom 0 on side A with operation 0, all others on side B with operation 1."
-abbrev pub leader : Seat
-leader = record { side = 0; operation = 0 }
-
-abbrev pub follower : Seat
-follower = record { side = 1; operation = 1 }
-
-abbrev pub catalogueLooms : ℕ → List Seat
-catalogueLooms n = leader ∷ replicate (n - 1) follower
 
 -- ---- counting looms
 -- The looms of a sequence other than loom 0.
@@ -180,7 +171,7 @@ module _ (n : ℕ) (several : 2 ≤ n) where
   of-B zero side e = omega arith
   of-B (suc u) side e = omega arith
 
-  looms-counted : length (catalogueLooms n) ≡ n
+  pub looms-counted : length (catalogueLooms n) ≡ n
   looms-counted = omega (arith, length-replicate (n - 1) follower)
 
   below-all : (X : ℕ) (us : List ℕ) → Order (catalogueLooms n) X us → Below n us

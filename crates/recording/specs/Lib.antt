@@ -4,7 +4,9 @@ pub mod AdmittedLaws
 pub mod AreaHolds
 pub mod AreaLaws
 pub mod CatalogueAccepted
+pub mod CatalogueCertificate
 pub mod CatalogueOrders
+pub mod CatalogueSets
 pub mod Check
 pub mod CheckLaws
 pub mod Clauses

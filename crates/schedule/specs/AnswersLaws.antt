@@ -17,10 +17,10 @@ use Rattle.loom.specs.declared.Place.{Place}
 use Rattle.loom.specs.declared.Place.the-variants.{Begin, Posted, Looking, Ready, Applied, Bound, Answered}
 use Rattle.loom.specs.declared.Shared.{Shared}
 use Rattle.loom.specs.Numbers.{saidApplied}
-use Rattle.loom.specs.Turn.{Rules, turnOf}
+use Rattle.loom.specs.Turn.{Rules, turnOf, hasAnswered}
 use Rattle.group.specs.declared.Group.{Group}
 use Rattle.group.specs.Group.{loomAt, numberOf, groupRules}
-use Rattle.group.specs.Step.{hasAnswered, stepOf}
+use Rattle.group.specs.Step.{stepOf}
 use Rattle.demands.specs.Fits.{WellFormed, Fits}
 use Rattle.demands.specs.FitsLaws.{step-of-answered, step-of-unanswered}
 use Rattle.schedule.specs.declared.Act.{Act}

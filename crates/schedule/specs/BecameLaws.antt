@@ -18,9 +18,9 @@ use Rattle.loom.specs.declared.Said.{Said}
 use Rattle.loom.specs.declared.Said.the-variants.{Nothing, Application, Answer}
 use Rattle.loom.specs.Numbers.{saidNumber}
 use Rattle.loom.specs.Looms.{counted, movedTo, restartedOf}
+use Rattle.loom.specs.Turn.{hasAnswered}
 use Rattle.group.specs.declared.Group.{Group}
 use Rattle.group.specs.Group.{emptyLoom, loomAt, withLoom, withShared, restartedAt}
-use Rattle.group.specs.Step.{hasAnswered}
 use Rattle.group.specs.ActsLaws.{restarted-each}
 use Rattle.demands.specs.Fits.{WellFormed, Fits}
 use Rattle.demands.specs.FitsLaws.{turnIn, turnTaken, step-of-answered, step-of-unanswered, restart-of-one, restart-of-all}

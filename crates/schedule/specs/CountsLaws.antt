@@ -3,16 +3,17 @@
 use Prim.Native.Nat.{ℕ, _≤_, _<_, min, max}
 use native.Mathlib.Omega.{arith}
 use mathlib.Core.Path.{_≡_, refl, ap, sym, _∙_}
-use mathlib.Core.Bool.{Bool, true, false, _&&_}
+use mathlib.Core.Bool.{Bool, true, false, and-eq-true-iff}
 use mathlib.Core.List.{List, [], _∷_}
 use mathlib.Core.Logic.{_⊎_, inl, inr}
 use lib.ListN.{length}
 use borrow.Author.Tests.{ltb-true}
 use Rattle.recording.specs.declared.Seat.{Seat}
 use Rattle.loom.specs.Looms.{mostSteps, movedTo}
+use Rattle.loom.specs.Turn.{hasAnswered}
 use Rattle.group.specs.declared.Group.{Group}
 use Rattle.group.specs.Group.{loomAt, withShared}
-use Rattle.group.specs.Step.{hasAnswered, stepOf}
+use Rattle.group.specs.Step.{stepOf}
 use Rattle.demands.specs.Acts.{loomSteps, loomRestarts, allRestart, untouched, actedOn}
 use Rattle.demands.specs.Fits.{WellFormed, Fits}
 use Rattle.demands.specs.FitsLaws.{turnIn, step-of-answered, step-of-unanswered, fits-by-act}
@@ -27,11 +28,7 @@ use Rattle.schedule.specs.BecameLaws.{loom-changed, Became, stayed, turn
 -- The first of named entries is named, and so are the others.
 pub first-named : (n e : ℕ) (es : List ℕ) → allNamed n (e ∷ es) ≡ true → (isNamed n (actOf e) ≡ true) × (allNamed n es ≡ true)
 unfolding allNamed
-first-named n e es = by-test (isNamed n (actOf e))
-  where
-    by-test : (b : Bool) → b && allNamed n es ≡ true → (b ≡ true) × (allNamed n es ≡ true)
-    by-test true rest = (refl, rest)
-    by-test false rest = let z : _≡_ {A = ℕ} 0 1 = cc in absurd (omega arith)
+first-named n e es = and-eq-true-iff (isNamed n (actOf e)) (allNamed n es) .0
 
 -- One act: the loom's count goes as the schedule's does, and never past the longest run.
 module _ {table : List ℕ} {states : ℕ} {g : Group} {k : ℕ} {act : Act} {x : Acted} where

@@ -10,6 +10,7 @@ use Rattle.loom.specs.declared.Side.{Side}
 use Rattle.loom.specs.declared.Side.the-variants.{A, B}
 use Rattle.agreement.specs.Machine.{Event, applied, answered}
 use Rattle.agreement.specs.Agreed.{Agreed, Came, Had, NoneApplied}
+use Rattle.agreement.specs.LogLaws.{HadAnswer}
 use Rattle.group.specs.declared.Numbers.{Numbers}
 use Rattle.group.specs.declared.Group.{Group}
 use Rattle.group.specs.Group.{numberOf}
@@ -25,7 +26,7 @@ use Rattle.schedule.specs.Run.{runOf}
 use Rattle.schedule.specs.RunLaws.{Unrefused, unrefused}
 use Rattle.schedule.specs.Counts.{answersFor}
 use Rattle.schedule.specs.Events.{doneBy, eventsOver, answersIn, applicationsIn}
-use Rattle.schedule.specs.EventsLaws.{HadAnswer, counted-is-had, Alike, alike-at-first, alike-always}
+use Rattle.schedule.specs.EventsLaws.{counted-is-had, Alike, alike-at-first, alike-always}
 
 -- A run's result r over the events that its schedule left. `num s` is the number of side s.
 pub record RunAgreed (num : Side → ℕ) (r : Ran) (log : List Event) : Type 0 where

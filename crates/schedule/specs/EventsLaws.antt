@@ -18,13 +18,13 @@ use Rattle.loom.specs.declared.Said.{Said}
 use Rattle.loom.specs.declared.Said.the-variants.{Nothing, Application, Answer}
 use Rattle.loom.specs.Sides.{sameSide}
 use Rattle.loom.specs.Numbers.{saidNumber, saidApplied}
+use Rattle.loom.specs.Turn.{hasAnswered}
+use Rattle.loom.specs.SidesLaws.{same-side}
 use Rattle.agreement.specs.Machine.{Event, posted, applied, answered, withPost, withSaid}
-use Rattle.agreement.specs.Agreed.{Had}
-use Rattle.agreement.specs.Teams.{same-side}
-use Rattle.agreement.specs.LogLaws.{had-latest, had-still}
+use Rattle.agreement.specs.LogLaws.{had-latest, HadAnswer, answer-still}
 use Rattle.group.specs.declared.Group.{Group}
 use Rattle.group.specs.Group.{loomAt}
-use Rattle.group.specs.Step.{hasAnswered, stepOf}
+use Rattle.group.specs.Step.{stepOf}
 use Rattle.demands.specs.Acts.{Act as Done, loomSteps, loomRestarts, allRestart, History, noted, actedOn, historyAfter, untouched}
 use Rattle.demands.specs.Fits.{WellFormed, Fits}
 use Rattle.demands.specs.FitsLaws.{turnIn, step-of-answered, step-of-unanswered}
@@ -85,24 +85,17 @@ applications-said k t Nothing log = omega arith
 applications-said k t Application log = refl
 applications-said k t (Answer x v) log = omega arith
 
--- An answer with side s is in the log.
-abbrev pub HadAnswer : Side → List Event → Type 0
-HadAnswer s log = (k : ℕ) × (v : ℕ) × Had (answered k s v) log
-
-still-had : (s : Side) (d : Event) (log : List Event) → HadAnswer s log → HadAnswer s (d ∷ log)
-still-had s d log (k, v, had) = (k, v, had-still (answered k s v) d log had)
-
 -- Where answers are counted, one is in the log.
 pub counted-is-had : (s : Side) (log : List Event) → 1 ≤ answersIn s log → HadAnswer s log
 unfolding answersIn
 counted-is-had s [] some = absurd (omega arith)
-counted-is-had s (posted k t v ∷ log) some = still-had s (posted k t v) log (counted-is-had s log some)
-counted-is-had s (applied k t ∷ log) some = still-had s (applied k t) log (counted-is-had s log some)
+counted-is-had s (posted k t v ∷ log) some = answer-still s (posted k t v) log (counted-is-had s log some)
+counted-is-had s (applied k t ∷ log) some = answer-still s (applied k t) log (counted-is-had s log some)
 counted-is-had s (answered k t v ∷ log) some = by-test (counted-is-had s log) (sameSide t s) refl some
   where
     by-test : (1 ≤ answersIn s log → HadAnswer s log) → (b : Bool) → sameSide t s ≡ b → 1 ≤ one b + answersIn s log → HadAnswer s (answered k t v ∷ log)
     by-test earlier true same some = (k, v, rw (same-side t s same) (had-latest (answered k s v) log))
-    by-test earlier false same some = still-had s (answered k t v) log (earlier (omega arith))
+    by-test earlier false same some = answer-still s (answered k t v) log (earlier (omega arith))
 
 module _ (table : List ℕ) (states operations : ℕ) where
   -- The history after an entry's act and the later ones.

@@ -1,8 +1,8 @@
 -- Acts taken in place are the acts of a run; and what the looms go by is the same after any act.
 -- Assumes nothing.
-use Prim.Native.Nat.{ℕ, zero, suc, _-_, _≤_, _<_}
+use Prim.Native.Nat.{ℕ, zero, suc, _-_}
 use native.Mathlib.Omega.{arith}
-use mathlib.Core.Path.{_≡_, refl, sym, ap, _∙_}
+use mathlib.Core.Path.{_≡_, refl, sym, ap}
 use mathlib.Core.Bool.{Bool, true, false, cond}
 use mathlib.Core.List.{List, [], _∷_}
 use lib.Dec.{eqb, ltb}
@@ -12,13 +12,13 @@ use Rattle.cell.specs.Table.{entryOf}
 use Rattle.loom.specs.declared.Side.{Side}
 use Rattle.loom.specs.declared.Loom.{Loom}
 use Rattle.loom.specs.declared.Lead.{Lead}
-use Rattle.loom.specs.Turn.{Rules}
+use Rattle.loom.specs.Turn.{Rules, hasAnswered}
 use Rattle.loom.specs.Looms.{rulesOf, turnedOf}
 use Rattle.group.specs.declared.Group.{Group}
 use Rattle.group.specs.declared.Outcome.{Outcome}
 use Rattle.group.specs.Group.{emptyLoom, loomAt, numberOf, countOf, leadOf, groupRules, withLoom, withShared, noLoom}
 use Rattle.group.specs.GroupLaws.{has-loom}
-use Rattle.group.specs.Step.{isUnfit, hasAnswered, unmoved, taken, stepOnOf, settled, refused, stepOf}
+use Rattle.group.specs.Step.{isUnfit, unmoved, taken, stepOnOf, settled, stepOf}
 use Rattle.demands.specs.Kept.{Kept}
 use Rattle.demands.specs.KeptLaws.{kept-itself, kept-by-step, kept-by-restart, kept-by-restart-of-all}
 use Rattle.schedule.specs.declared.Act.{Act}

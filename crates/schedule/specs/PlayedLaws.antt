@@ -9,36 +9,11 @@ use lib.Dec.{eqb}
 use lib.ListN.{length, getD, set, take, drop, take-append-drop, drop-of-length-le}
 use lib.Seq.{drop-cons, drop-drop, take-suc-set, append-snoc, drop-set-lt}
 use Rattle.group.specs.declared.Group.{Group}
-use Rattle.group.specs.declared.Stepped.{Stepped}
-use Rattle.group.specs.Step.{stepOf, restartOf, restartAllOf}
 use Rattle.recording.specs.OrdersLaws.{one-at-most}
-use Rattle.schedule.specs.declared.Act.{Act}
-use Rattle.schedule.specs.declared.Act.the-variants.{Step, Restart, RestartAll, Unknown}
 use Rattle.schedule.specs.declared.Acted.{Acted}
 use Rattle.schedule.specs.declared.Ran.{Ran}
 use Rattle.schedule.specs.Acts.{actOf}
-use Rattle.schedule.specs.Played.{afterStep, afterRestart, begun, withActed, actedOf, playedOf, marksOf}
-
--- One act, one law for each kind.
-module _ (table : List ℕ) (states operations : ℕ) (g : Group) (act : Act) (x : Acted) where
-  pub acted-step : (k : ℕ) (s : Stepped) → act ≡ Step k → s ≡ stepOf table states operations g k → x ≡ afterStep s →
-      x ≡ actedOf table states operations g act
-  unfolding actedOf
-  acted-step k s is from is-after = is-after ∙ (ap afterStep from ∙ sym (ap (actedOf table states operations g) is))
-
-  pub acted-restart : (k : ℕ) (h : Group) → act ≡ Restart k → h ≡ restartOf g k .group → x ≡ afterRestart h →
-      x ≡ actedOf table states operations g act
-  unfolding actedOf
-  acted-restart k h is from is-after = is-after ∙ (ap afterRestart from ∙ sym (ap (actedOf table states operations g) is))
-
-  pub acted-restart-all : (h : Group) → act ≡ RestartAll → h ≡ restartAllOf g .group → x ≡ afterRestart h →
-      x ≡ actedOf table states operations g act
-  unfolding actedOf
-  acted-restart-all h is from is-after = is-after ∙ (ap afterRestart from ∙ sym (ap (actedOf table states operations g) is))
-
-  pub acted-unknown : act ≡ Unknown → x ≡ afterRestart g → x ≡ actedOf table states operations g act
-  unfolding actedOf
-  acted-unknown is is-after = is-after ∙ sym (ap (actedOf table states operations g) is)
+use Rattle.schedule.specs.Played.{begun, withActed, actedOf, playedOf, marksOf}
 
 -- A run's counts after i entries: i entries, and no more answers or applications.
 pub record Within (i : ℕ) (r : Ran) : Type 0 where

@@ -1,18 +1,16 @@
 -- Laws of a set's members, its size and its lowest state, over a number of any width.
 -- Assumes nothing.
 use Prim.Native.Nat.{ℕ, zero, suc, _+_, _/_, _%_, _^_, _≤_, _<_, zero-le, suc-le-suc}
-use mathlib.Core.Path.{_≡_, refl, sym, ap, ap₂, subst, _∙_}
+use mathlib.Core.Path.{_≡_, refl, sym, ap, ap₂, _∙_}
 use mathlib.Core.Logic.{_⊎_, inl, inr, ⊎-elim}
-use mathlib.Core.List.{List, [], _∷_, _++_, append-nil, List·Memᴰ, List·Memᴰ·head, List·Memᴰ·tail, List·Memᴰ·append-cases, List·Memᴰ·eq-of-singleton, List·Memᴰ·not-nil, Memᴰ·append-left, Memᴰ·append-right}
-use native.Mathlib.Nat.{le-antisymm, le-of-suc-le-suc, zero-lt-suc, eq-or-lt-of-le, not-suc-le-zero, mod-lt, pow-suc}
+use mathlib.Core.List.{List, [], _∷_, _++_, List·Memᴰ, List·Memᴰ·head, List·Memᴰ·tail, List·Memᴰ·append-cases, List·Memᴰ·eq-of-singleton, List·Memᴰ·not-nil, Memᴰ·append-left, Memᴰ·append-right}
+use native.Mathlib.Nat.{le-of-suc-le-suc, zero-lt-suc, eq-or-lt-of-le, not-suc-le-zero, mod-lt, pow-suc}
 use native.Mathlib.Decide.{decLt}
-use native.Mathlib.Numerals.{add-one}
 use native.Mathlib.Omega.{arith}
 use lib.Arith.{lt-one}
 use lib.Count.{ones, onesIn, ones-step, trailingZeros, under}
 use lib.ListN.{length, getD, length-append, List·getD-append}
 use lib.Seq.{getD-append-seam}
-use lib.Pow.{pow-pos}
 use Rattle.sets.specs.Sets.{bit, Member, keep, members, sizeOf, lowestOf}
 use Rattle.sets.specs.SetsLaws.{bit-small, bit-first, bit-after}
 

@@ -2,14 +2,11 @@
 -- Assumes nothing.
 use Prim.Native.Nat.{ℕ, zero, suc, _+_, _-_, _*_, _/_, _%_, _^_, _≤_, _<_, min, max, zero-le, suc-le-suc}
 use mathlib.Core.Path.{_≡_, refl, sym, ap, ap₂, subst, _∙_}
-use mathlib.Core.Logic.{_⊎_, inl, inr, ⊎-elim}
 use mathlib.Core.Bool.{Bool, true, false, cond, _&&_}
-use mathlib.Core.List.{List, [], _∷_, _++_}
-use native.Mathlib.Nat.{zero-div, mod-lt, div-eq-of-lt, div-one, zero-lt-suc, lt-of-lt-of-le, div-add-mod', le-of-suc-le-suc, eq-zero-or-pos, mul-div-cancel, add-comm, zero-add, mod-mod, mul-mod-left, div-self, mul-add-mod-self-right, pow-suc, pow-succ', le-refl, mul-comm, sub-add-cancel, mod-eq-of-lt, div-div-eq-div-mul, not-suc-le-zero}
-use native.Mathlib.Numerals.{add-one}
+use native.Mathlib.Nat.{zero-div, mod-lt, div-eq-of-lt, div-one, zero-lt-suc, lt-of-lt-of-le, div-add-mod', mul-div-cancel, mul-mod-left, div-self, mul-add-mod-self-right, pow-suc, pow-succ', mod-eq-of-lt, div-div-eq-div-mul}
 use native.Mathlib.Omega.{arith}
-use lib.Arith.{bin-ind, lt-one}
-use lib.Pow.{pow-pos, pow-mono, pow-add, shr-shr, shl-shr, split, shr-lt}
+use lib.Arith.{bin-ind}
+use lib.Pow.{pow-pos, pow-mono}
 use lib.Bits.{bitOr, bitAnd, or-shr, and-shr, or-step, and-step, or-lt}
 use lib.Dec.{eqb, ltb}
 use borrow.Author.Tests.{eqb-true, eqb-false, lt-ltb, le-ltb}

@@ -1,11 +1,11 @@
 -- What a word, a field, a run and the file's end take, and what they refuse.
 -- Assumes nothing.
-use Prim.Native.Nat.{ℕ, zero, suc, pred, _+_, _-_, _*_, _≤_, _<_}
-use native.Mathlib.Nat.{zero-mul, suc-mul, add-zero, add-assoc}
+use Prim.Native.Nat.{ℕ, zero, suc, _+_, _-_, _*_, _≤_, _<_}
+use native.Mathlib.Nat.{zero-mul, suc-mul}
 use native.Mathlib.Numerals.{sub-one}
 use native.Mathlib.Omega.{arith}
 use mathlib.Core.Path.{_≡_, refl, sym, ap, _∙_}
-use mathlib.Core.Bool.{Bool, true, false, _&&_}
+use mathlib.Core.Bool.{Bool, true, false, and-eq-true-iff}
 use mathlib.Core.List.{List}
 use lib.Dec.{leb, ltb}
 use lib.ListN.{length, getD}
@@ -13,15 +13,6 @@ use borrow.Author.Tests.{leb-true, ltb-true, le-leb, lt-leb, lt-ltb, le-ltb}
 use Rattle.xdr.specs.declared.Field.{Field}
 use Rattle.xdr.specs.declared.Field.the-variants.{Is, Not}
 use Rattle.xdr.specs.Field.{joined, wordFits, wordAt, within, judged, fieldAt, andThen, run, endAt}
-
--- Two tests that hold together hold each.
-pub both-left : (a b : Bool) → a && b ≡ true → a ≡ true
-both-left true b h = refl
-both-left false b h = h
-
-pub both-right : (a b : Bool) → a && b ≡ true → b ≡ true
-both-right true b h = h
-both-right false b h = let z : _≡_ {A = Bool} false true = h in cc
 
 -- The word at a position within the file, and past its end.
 pub word-inside : (s : List ℕ) (p : ℕ) → p + 4 ≤ length s
@@ -48,7 +39,8 @@ within-high low end v l h = simp (le-leb low v l, le-ltb v end h)
 
 pub within-taken : (low end v : ℕ) → within low end v ≡ true → (low ≤ v) × (v < end)
 unfolding within
-within-taken low end v h = (leb-true low v (both-left _ _ h), ltb-true v end (both-right (leb low v) _ h))
+within-taken low end v h =
+    let parts = and-eq-true-iff (leb low v) (ltb v end) .0 h in (leb-true low v (parts .0), ltb-true v end (parts .1))
 
 -- What a judged field takes, and what it refuses: its end past the file's first, then its test.
 module _ (reaches passes : Bool) (v code p : ℕ) where
@@ -177,10 +169,6 @@ run-taken item width (suc k) p u h =
 pub end-takes : (code : ℕ) (s : List ℕ) (p : ℕ) → length s ≤ p → endAt code s p ≡ Is p
 unfolding endAt
 end-takes code s p h = simp (le-leb (length s) p h)
-
-pub end-refuses : (code : ℕ) (s : List ℕ) (p : ℕ) → p < length s → endAt code s p ≡ Not code p
-unfolding endAt
-end-refuses code s p h = simp (lt-leb (length s) p h)
 
 pub end-taken : (code : ℕ) (s : List ℕ) (p u : ℕ) → endAt code s p ≡ Is u → length s ≤ p
 unfolding endAt

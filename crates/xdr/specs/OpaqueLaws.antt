@@ -1,25 +1,19 @@
 -- What an opaque part takes, and what it refuses.
 -- Assumes nothing.
-use Prim.Native.Nat.{ℕ, zero, suc, _+_, _-_, _*_, _≤_, _<_}
-use native.Mathlib.Numerals.{sub-one, add-one}
+use Prim.Native.Nat.{ℕ, zero, suc, _+_, _-_, _≤_, _<_}
+use native.Mathlib.Numerals.{sub-one}
 use native.Mathlib.Omega.{arith}
 use mathlib.Core.Path.{_≡_, refl, sym, ap, _∙_}
 use mathlib.Core.Bool.{Bool, true, false, _&&_}
 use mathlib.Core.List.{List, []}
 use lib.Dec.{leb}
 use lib.ListN.{length, getD, take, drop}
-use borrow.Author.Tests.{leb-true, leb-false, le-leb, lt-leb}
-use Rattle.xdr.specs.declared.Field.{Field}
+use borrow.Author.Tests.{leb-false, le-leb, lt-leb}
 use Rattle.xdr.specs.declared.Field.the-variants.{Is, Not}
-use Rattle.xdr.specs.Field.{judged}
-use Rattle.xdr.specs.FieldLaws.{both-left, both-right, Taken, judged-takes, judged-refuses, judged-ends, judged-taken}
+use Rattle.xdr.specs.FieldLaws.{Taken, judged-takes, judged-refuses, judged-ends, judged-taken}
 use Rattle.xdr.specs.Opaque.{padOf, padded, all, partOf, opaqueAt}
 
--- The pad bytes are fewer than four, and a longer part has no fewer bytes with them.
-pub pad-below : (n : ℕ) → padOf n < 4
-unfolding padOf
-pad-below n = omega arith
-
+-- A longer part has no fewer bytes with its pad bytes.
 pub padded-grows : (n m : ℕ) → n ≤ m → padded n ≤ padded m
 unfolding padOf
 padded-grows n m h = omega arith

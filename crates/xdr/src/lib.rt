@@ -1,7 +1,6 @@
 // A small format over a lent file: the word at a position, a field with its limits, an opaque part with its pad bytes.
 ghost use mathlib.Core.Path.{_≡_};
-ghost use mathlib.Core.Bool.{Bool};
-ghost use Prim.Native.Nat.{ℕ, _+_, _≤_, _<_, _^_};
+ghost use Prim.Native.Nat.{_+_, _≤_, _<_, _^_};
 ghost use lib.ListN.{length};
 ghost use lib.Dec.{leb};
 ghost use Rattle.xdr.specs.Field.{joined, wordAt, within, fieldAt, endAt};

@@ -3,7 +3,8 @@
 use mathlib.Core.Path.{sym, ap, _∙_}
 use denote.Ref.{now}
 use Rattle.loom.specs.Looms.{rulesOf}
-use Rattle.group.specs.Step.{hasAnswered, permitOf, taken}
+use Rattle.loom.specs.Turn.{hasAnswered}
+use Rattle.group.specs.Step.{permitOf, taken}
 use Rattle.group.specs.StepLaws.{step-denied, step-granted}
 use borrow.Author.Needs.{needs}
 use Rattle.group.proofs.step_on.Statement.{statement}

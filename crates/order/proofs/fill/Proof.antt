@@ -4,9 +4,8 @@ use borrow.Author.Needs.{needs}
 use Prim.Native.Nat.{ℕ, _+_, _-_, _*_, _%_, _≤_}
 use native.Mathlib.Nat.{sub-zero}
 use native.Mathlib.Omega.{arith}
-use mathlib.Core.Path.{_≡_, refl, ap, _∙_}
+use mathlib.Core.Path.{_≡_, ap, _∙_}
 use denote.Ref.{now}
-use lib.ListN.{length}
 use Rattle.order.specs.OrderLaws.{lowsAt, Filling, filling-begins, filling-goes-on, filling-ends, lows-next, lows-none}
 use Rattle.order.proofs.fill.Statement.{statement}
 use Rattle.order.proofs.fill.Tie as tie

@@ -4,7 +4,7 @@ use borrow.Author.Needs.{needs}
 use Prim.Native.Nat.{ℕ, _+_, _-_, _*_, _≤_}
 use native.Mathlib.Nat.{sub-zero}
 use native.Mathlib.Omega.{arith}
-use mathlib.Core.Path.{_≡_, refl, ap, _∙_}
+use mathlib.Core.Path.{_≡_, ap}
 use denote.Ref.{now}
 use Rattle.format.specs.Format.{seatsAt}
 use Rattle.order.specs.Order.{noSeats, seatsOf}

@@ -1,4 +1,3 @@
-use native.Mathlib.Omega.{arith}
 use borrow.Author.Tests.{le-leb, lt-leb}
 use Rattle.xdr.specs.Field.{endAt}
 use Rattle.xdr.proofs.end_at.Statement.{statement}

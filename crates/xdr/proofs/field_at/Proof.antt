@@ -1,4 +1,3 @@
-use native.Mathlib.Omega.{arith}
 use mathlib.Core.Path.{sym, _∙_}
 use Rattle.xdr.specs.FieldLaws.{within-low, within-high, field-ends, limits-take, limits-refuse}
 use borrow.Author.Needs.{needs}

@@ -1,7 +1,7 @@
 -- `boundary::of_group::with_group` meets its contract, part by part.
 -- Assumes nothing.
 use borrow.Author.Needs.{needs}
-use mathlib.Core.Path.{_≡_, ap, _∙_}
+use mathlib.Core.Path.{ap, _∙_}
 use mathlib.Core.List.{List}
 use Prim.Native.Nat.{ℕ}
 use Rattle.group.specs.Group.{loomAt}

@@ -1,6 +1,6 @@
 -- `boundary::of_order::with_seats` meets its contract: it is the library's answer, as numbers.
 -- Assumes nothing.
-use mathlib.Core.Path.{_≡_, ap, _∙_}
+use mathlib.Core.Path.{ap, _∙_}
 use mathlib.Core.List.{List}
 use Prim.Native.Nat.{ℕ}
 use Rattle.boundary.specs.Orders.{seatAt, withSeat, withSeats}

@@ -1,7 +1,5 @@
 -- `cell::catalogue_cell::entry` meets its contract: the place decides the operation.
 -- Assumes nothing.
-use mathlib.Core.Path.{sym, _∙_}
-use native.Mathlib.Omega.{arith}
 use borrow.Author.Needs.{needs}
 use borrow.Author.Tests.{lt-ltb, le-ltb}
 use Rattle.cell.specs.Catalogue.{entryAt}

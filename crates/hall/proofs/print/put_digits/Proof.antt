@@ -1,8 +1,7 @@
 -- `hall::print::put_digits` is safe and ends: each index is within both.
 -- Assumes nothing.
-use Prim.Native.Nat.{_-_, _≤_}
+use Prim.Native.Nat.{_-_}
 use mathlib.Core.Path.{_≡_}
-use native.Mathlib.Omega.{arith}
 use lib.ListN.{length}
 use borrow.Author.Needs.{needs}
 use Rattle.hall.proofs.print.put_digits.Statement.{statement}
