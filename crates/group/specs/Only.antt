@@ -1,9 +1,10 @@
 -- Nothing else meets the contracts of `src/lib.rt`: what each says of a result determines the result.
 -- Assumes nothing.
-use Prim.Native.Nat.{ℕ}
+use Prim.Native.Nat.{ℕ, min}
 use mathlib.Core.Path.{_≡_, sym, _∙_}
 use mathlib.Core.List.{List}
 use lib.ListN.{length}
+use Rattle.cell.specs.Limits.{edition}
 use Rattle.recording.specs.declared.Certificate.{Certificate}
 use Rattle.recording.specs.Check.{areaOf}
 use Rattle.loom.specs.declared.Side.{Side}
@@ -18,7 +19,7 @@ use Rattle.group.specs.declared.Opened.{Opened}
 use Rattle.group.specs.declared.Outcome.{Outcome}
 use Rattle.group.specs.declared.Stepped.{Stepped}
 use Rattle.group.specs.declared.Restarted.{Restarted}
-use Rattle.group.specs.Group.{setOf, numberOf, leadOf}
+use Rattle.group.specs.Group.{setOf, numberOf, leadOf, loomsRestarted}
 use Rattle.group.specs.Open.{pieces, openOf}
 use Rattle.group.specs.Step.{stepOnOf, stepOf, restartOf, restartAllOf}
 
@@ -52,3 +53,7 @@ only-restart group loom r s p q = p ∙ sym q
 
 pub only-restart-all : (group : Group) (r s : Restarted) → r ≡ restartAllOf group → s ≡ restartAllOf group → r ≡ s
 only-restart-all group r s p q = p ∙ sym q
+
+pub only-restarted-below : (looms : List Loom) (count : ℕ) (r s : List Loom) →
+    r ≡ loomsRestarted looms (min count (edition .looms)) → s ≡ loomsRestarted looms (min count (edition .looms)) → r ≡ s
+only-restarted-below looms count r s p q = p ∙ sym q

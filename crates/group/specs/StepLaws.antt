@@ -5,14 +5,14 @@ use native.Mathlib.Omega.{arith}
 use native.Mathlib.Nat.{suc-mul, mul-comm, mul-le-mul, le-refl, lt-of-lt-of-le}
 use mathlib.Core.Path.{_≡_, refl, sym, ap, subst, _∙_}
 use mathlib.Core.Bool.{Bool, true, false}
-use mathlib.Core.List.{List}
+use mathlib.Core.List.{List, [], _∷_}
 use lib.Dec.{eqb, leb}
-use lib.ListN.{length}
+use lib.ListN.{length, set, getD}
 use borrow.Author.Tests.{lt-ltb, le-ltb, le-leb, lt-leb, leb-true, leb-false, eq-eqb, ne-eqb}
 use Rattle.cell.specs.declared.Moved.{Moved}
 use Rattle.cell.specs.declared.Moved.the-variants.{To, Refused}
 use Rattle.cell.specs.Limits.{edition}
-use Rattle.cell.specs.Table.{position, entryOf, nextOf, pickMoved}
+use Rattle.cell.specs.Table.{position, entryOf, nextOf, pick, pickMoved}
 use Rattle.cell.specs.TableLaws.{refused-entry, moved-to}
 use Rattle.loom.specs.declared.Loom.{Loom}
 use Rattle.loom.specs.declared.Lead.{Lead}
@@ -26,7 +26,7 @@ use Rattle.group.specs.declared.Permit.the-variants.{Granted, Denied}
 use Rattle.group.specs.declared.Outcome.{Outcome}
 use Rattle.group.specs.declared.Stepped.{Stepped}
 use Rattle.group.specs.declared.Restarted.{Restarted}
-use Rattle.group.specs.Group.{loomAt, numberOf, leadOf, groupRules, withLoom, withShared, noLoom, restartedAt, restartedBelow}
+use Rattle.group.specs.Group.{emptyLoom, loomAt, numberOf, leadOf, groupRules, withLoom, withShared, noLoom, restartedAt, restartedBelow}
 use Rattle.group.specs.Step.{pickOutcome, isUnfit, fittedOf, hasAnswered, permitOf, unmoved, taken, stepOnOf, refused, settled, ownStep, stepOf, restarted, restartOf, restartAllOf}
 
 -- Whether group and table fit, one law for each way that it ends.
@@ -151,18 +151,36 @@ module _ (R : Rules) (v : ℕ) (table : List ℕ) (states operations : ℕ) (m :
       (pickOutcome (hasAnswered (l .place)) (unmoved 31 m l) (taken x)))
       (sym (turned-of-next R v (entryOf table states (l .operation)) m l))
 
+-- A loom put back into its own slot changes nothing.
+put-back : (ls : List Loom) (k : ℕ) → set ls k (getD ls k emptyLoom) ≡ ls
+put-back [] k = refl
+put-back (l ∷ ls) zero = refl
+put-back (l ∷ ls) (suc k) = ap (λ (r : List Loom). l ∷ r) (put-back ls k)
+
+-- The outcome of a step of loom k, with its memory and its loom put in their places in the group.
+abbrev pub inPlace : Group → ℕ → Outcome → Stepped
+inPlace g k r =
+    record { code = r .code; said = r .said; steps = pick (eqb (r .code) 0) (r .loom .steps) 0; group = withLoom (withShared g (r .shared)) k (r .loom) }
+
 -- A group's step, restart of one and restart of all, one law for each way that they end.
 module _ (g : Group) (k : ℕ) where
-  pub settled-refused : (r : Outcome) → (r .code ≡ 0 → ⊥) → refused (r .code) g ≡ settled g k r
-  unfolding settled
-  settled-refused r h = simp (ne-eqb _ _ h)
+  -- a refused step puts back what was there, so that a step may always be put in place
+  pub settled-in-place : (table : List ℕ) (states operations : ℕ) (R : Rules) (v : ℕ) →
+      inPlace g k (stepOnOf R v table states operations (g .shared) (loomAt g k))
+      ≡ settled g k (stepOnOf R v table states operations (g .shared) (loomAt g k))
+  unfolding settled stepOnOf
+  settled-in-place table states operations R v =
+      by-tests (isUnfit table states operations (loomAt g k .operation) (g .shared .cell)) (hasAnswered (loomAt g k .place))
+    where
+      out : Bool → Bool → Outcome
+      out s t =
+          pickOutcome s (unmoved 32 (g .shared) (loomAt g k))
+          (pickOutcome t (unmoved 31 (g .shared) (loomAt g k)) (taken (turnedOf R v (entryOf table states (loomAt g k .operation)) (g .shared) (loomAt g k))))
 
-  pub settled-taken : (r : Outcome) → r .code ≡ 0 →
-      _≡_ {A = Stepped}
-      (record { code = 0; said = r .said; steps = r .loom .steps; group = withLoom (withShared g (r .shared)) k (r .loom) })
-      (settled g k r)
-  unfolding settled
-  settled-taken r h = simp (eq-eqb _ _ h)
+      by-tests : (s t : Bool) → inPlace g k (out s t) ≡ settled g k (out s t)
+      by-tests true t = rw (put-back (g .looms) k)
+      by-tests false true = rw (put-back (g .looms) k)
+      by-tests false false = refl
 
   -- the step of loom k from the group's rules and its side's number, held elsewhere
   pub own-step : (table : List ℕ) (states operations : ℕ) (lead : Lead) (v : ℕ) →

@@ -2,9 +2,8 @@
 -- Assumes nothing.
 use Prim.Native.Nat.{ℕ, _+_, max}
 use mathlib.Core.Bool.{Bool, false}
-use lib.Dec.{eqb, leb, ltb}
-use Rattle.cell.specs.Limits.{edition}
-use Rattle.cell.specs.Table.{either, pick}
+use lib.Dec.{eqb}
+use Rattle.cell.specs.Table.{pick}
 use Rattle.loom.specs.Numbers.{saidApplied}
 use Rattle.group.specs.declared.Group.{Group}
 use Rattle.group.specs.declared.Outcome.{Outcome}
@@ -27,10 +26,6 @@ noNote = record { mark = 0; applied = false; steps = 0 }
 -- The act of what it is counted by and the group that it leaves.
 abbrev pub actedBy : Noted → Group → Acted
 actedBy n g = record { mark = n .mark; applied = n .applied; steps = n .steps; group = g }
-
--- Whether an entry is no step of a loom of a group of so many, or these are beyond the limit.
-abbrev pub noStep : ℕ → ℕ → Bool
-noStep count entry = either (ltb (edition .looms) count) (leb count entry)
 
 -- The group after an act that is no step of one of its looms.
 abbrev pub restartedBy : Group → Act → Group

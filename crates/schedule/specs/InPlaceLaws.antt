@@ -6,19 +6,18 @@ use mathlib.Core.Path.{_≡_, refl, sym, ap, _∙_}
 use mathlib.Core.Bool.{Bool, true, false}
 use mathlib.Core.List.{List, [], _∷_}
 use lib.Dec.{eqb, ltb}
-use lib.ListN.{length, getD, set, take}
+use lib.ListN.{length, getD, take}
 use borrow.Author.Tests.{lt-ltb}
-use Rattle.cell.specs.Table.{entryOf}
 use Rattle.loom.specs.declared.Side.{Side}
 use Rattle.loom.specs.declared.Loom.{Loom}
 use Rattle.loom.specs.declared.Lead.{Lead}
-use Rattle.loom.specs.Turn.{Rules}
-use Rattle.loom.specs.Looms.{rulesOf, turnedOf}
+use Rattle.loom.specs.Looms.{rulesOf}
 use Rattle.group.specs.declared.Group.{Group}
 use Rattle.group.specs.declared.Outcome.{Outcome}
 use Rattle.group.specs.Group.{emptyLoom, loomAt, numberOf, countOf, leadOf, groupRules, withLoom, withShared, noLoom}
 use Rattle.group.specs.GroupLaws.{has-loom}
-use Rattle.group.specs.Step.{isUnfit, hasAnswered, unmoved, taken, pickOutcome, pickStepped, stepOnOf, settled, refused, stepOf}
+use Rattle.group.specs.Step.{stepOnOf, stepOf}
+use Rattle.group.specs.StepLaws.{settled-in-place}
 use Rattle.demands.specs.Kept.{Kept}
 use Rattle.demands.specs.KeptLaws.{kept-itself, kept-by-step, kept-by-restart, kept-by-restart-of-all}
 use Rattle.schedule.specs.declared.Act.{Act}
@@ -47,12 +46,6 @@ unfolding leadOf
 lead-kept g h kept =
     rw (kept .start, kept .sets, kept .count, counts-alike _ (g .count) (h .looms) (g .looms) (kept .slots) (λ k. kept .looms k .side))
 
--- A loom put back into its own slot changes nothing.
-put-back : (ls : List Loom) (k : ℕ) → set ls k (getD ls k emptyLoom) ≡ ls
-put-back [] k = refl
-put-back (l ∷ ls) zero = refl
-put-back (l ∷ ls) (suc k) = ap (λ (r : List Loom). l ∷ r) (put-back ls k)
-
 -- What is counted apart from the group is what a run counts.
 pub counted-apart : (t : Tally) (g h : Group) (n : Noted) → ranBy (tallied t n) h ≡ withActed (ranBy t g) (actedBy n h)
 unfolding tallied withActed
@@ -67,26 +60,6 @@ module _ (table : List ℕ) (states operations : ℕ) (g : Group) where
   kept-by-acted RestartAll = kept-by-restart-of-all g
   kept-by-acted Unknown = kept-itself g
 
-  -- A step that is settled in its group, taken or refused, is the memory and the loom put in their places.
-  settled-in-place : (k : ℕ) (R : Rules) (v : ℕ) →
-      afterStep (settled g k (stepOnOf R v table states operations (g .shared) (loomAt g k)))
-      ≡ actedBy (noteOf (stepOnOf R v table states operations (g .shared) (loomAt g k)))
-      (withLoom (withShared g (stepOnOf R v table states operations (g .shared) (loomAt g k) .shared)) k
-      (stepOnOf R v table states operations (g .shared) (loomAt g k) .loom))
-  unfolding settled stepOnOf
-  settled-in-place k R v = by-tests (isUnfit table states operations (loomAt g k .operation) (g .shared .cell)) (hasAnswered (loomAt g k .place))
-    where
-      out : Bool → Bool → Outcome
-      out s t =
-          pickOutcome s (unmoved 32 (g .shared) (loomAt g k))
-          (pickOutcome t (unmoved 31 (g .shared) (loomAt g k)) (taken (turnedOf R v (entryOf table states (loomAt g k .operation)) (g .shared) (loomAt g k))))
-
-      by-tests : (s t : Bool) →
-          afterStep (settled g k (out s t)) ≡ actedBy (noteOf (out s t)) (withLoom (withShared g (out s t .shared)) k (out s t .loom))
-      by-tests true t = rw (put-back (g .looms) k)
-      by-tests false true = rw (put-back (g .looms) k)
-      by-tests false false = refl
-
   -- An entry that is a step of a loom of the group.
   pub step-in-place : (e v : ℕ) (lead : Lead) (r : Outcome) → noLoom g e ≡ false → lead ≡ leadOf g → v ≡ numberOf (g .numbers) (loomAt g e .side) →
       r ≡ stepOnOf (rulesOf lead) v table states operations (g .shared) (loomAt g e) →
@@ -95,7 +68,7 @@ module _ (table : List ℕ) (states operations : ℕ) (g : Group) where
   step-in-place e v lead r has leads posts is =
       let here = has-loom g e has in
       let low : ltb e firstRestart ≡ true = lt-ltb e firstRestart (omega arith) in
-      rw (is, leads, posts, low, has) (sym (settled-in-place e (groupRules g) (numberOf (g .numbers) (loomAt g e .side))))
+      rw (is, leads, posts, low, has) (ap afterStep (settled-in-place g e table states operations (groupRules g) (numberOf (g .numbers) (loomAt g e .side))))
 
   -- An entry that is none.
   pub restart-in-place : (e : ℕ) → noLoom g e ≡ true → actedBy noNote (restartedBy g (actOf e)) ≡ actedOf table states operations g (actOf e)

@@ -7,10 +7,11 @@ ghost use lib.ListN.{length, drop};
 ghost use Rattle.cell.specs.Limits.{edition};
 ghost use Rattle.cell.specs.Table.{pick};
 ghost use Rattle.recording.specs.Check.{areaOf};
+ghost use Rattle.group.specs.Group.{noneOf};
 ghost use Rattle.group.specs.Open.{pieces, noGroup};
 ghost use Rattle.schedule.specs.Acts.{actOf, isNamed, allNamed};
 ghost use Rattle.schedule.specs.Played.{markOf, begun, playedOf, marksOf};
-ghost use Rattle.schedule.specs.InPlace.{noteOf, noNote, noStep, restartedBy, tallied, ranBy};
+ghost use Rattle.schedule.specs.InPlace.{noteOf, noNote, restartedBy, tallied, ranBy};
 ghost use Rattle.schedule.specs.Run.{refusalOf, codeOf, unrun, ranOf, markedOf, runOf, bufferOf};
 use group::Group;
 use group::Numbers;
@@ -274,7 +275,7 @@ fn no_note() -> Noted
 
 // Whether an entry is no step of a loom of `count`, or these are more than 8.
 fn no_step(count: usize, entry: u8) -> bool
-    ensures { λ r. ⌜ r ≡ noStep count entry ⌝ }
+    ensures { λ r. ⌜ r ≡ noneOf count entry ⌝ }
 {
     cell::LOOMS < count || count <= entry as usize
 }
