@@ -1,7 +1,7 @@
 -- A step, a restart of one and a restart of all: document 01, "One loom's steps" and "Codes and their order".
 -- Assumes nothing.
 use Prim.Native.Nat.{ℕ, _*_}
-use mathlib.Core.Bool.{Bool, true, false, not}
+use mathlib.Core.Bool.{Bool, true, false, not, cond}
 use mathlib.Core.List.{List}
 use lib.Dec.{eqb, leb}
 use lib.ListN.{length}
@@ -69,6 +69,10 @@ permitOf Refused answered = Denied 32
 permitOf (To s) true = Denied 31
 permitOf (To s) false = Granted s
 
+-- Whether the loom l may take a step on the memory m.
+abbrev pub mayStep : List ℕ → ℕ → ℕ → Shared → Loom → Permit
+mayStep table states operations m l = permitOf (fittedOf table states operations (l .operation) (m .cell)) (hasAnswered (l .place))
+
 -- "A refused step [...] returns what it was given": memory and loom.
 abbrev pub unmoved : ℕ → Shared → Loom → Outcome
 unmoved code m l = record { code = code; said = Nothing; shared = m; loom = l }
@@ -94,6 +98,11 @@ settled g k r =
     pickStepped (eqb (r .code) 0)
     (record { code = 0; said = r .said; steps = r .loom .steps; group = withLoom (withShared g (r .shared)) k (r .loom) })
     (refused (r .code) g)
+
+-- The outcome of a step of loom k with its memory and its loom in their places in the group, whether it was taken or refused.
+abbrev pub inPlace : Group → ℕ → Outcome → Stepped
+inPlace g k r =
+    record { code = r .code; said = r .said; steps = cond (eqb (r .code) 0) (r .loom .steps) 0; group = withLoom (withShared g (r .shared)) k (r .loom) }
 
 -- The step of loom k of a group, on the group's memory, by the group's rules and its side's number.
 abbrev pub ownStep : List ℕ → ℕ → ℕ → Group → ℕ → Outcome

@@ -12,7 +12,7 @@ use borrow.Author.Tests.{lt-ltb, le-ltb, le-leb, lt-leb, leb-true, leb-false, eq
 use Rattle.cell.specs.declared.Moved.{Moved}
 use Rattle.cell.specs.declared.Moved.the-variants.{To, Refused}
 use Rattle.cell.specs.Limits.{edition}
-use Rattle.cell.specs.Table.{position, entryOf, nextOf, pick, pickMoved}
+use Rattle.cell.specs.Table.{position, entryOf, nextOf, pickMoved}
 use Rattle.cell.specs.TableLaws.{refused-entry, moved-to}
 use Rattle.loom.specs.declared.Loom.{Loom}
 use Rattle.loom.specs.declared.Lead.{Lead}
@@ -27,7 +27,7 @@ use Rattle.group.specs.declared.Outcome.{Outcome}
 use Rattle.group.specs.declared.Stepped.{Stepped}
 use Rattle.group.specs.declared.Restarted.{Restarted}
 use Rattle.group.specs.Group.{emptyLoom, loomAt, numberOf, leadOf, groupRules, withLoom, withShared, noLoom, restartedAt, restartedBelow}
-use Rattle.group.specs.Step.{pickOutcome, isUnfit, fittedOf, hasAnswered, permitOf, unmoved, taken, stepOnOf, refused, settled, ownStep, stepOf, restarted, restartOf, restartAllOf}
+use Rattle.group.specs.Step.{pickOutcome, isUnfit, fittedOf, hasAnswered, permitOf, mayStep, unmoved, taken, stepOnOf, refused, settled, inPlace, ownStep, stepOf, restarted, restartOf, restartAllOf}
 
 -- Whether group and table fit, one law for each way that it ends.
 module _ (table : List ℕ) (states operations o q : ℕ) where
@@ -124,6 +124,17 @@ denied-first true u e code m l x h = let it : code ≡ 32 = cc in ap (λ n. unmo
 denied-first false true e code m l x h = let it : code ≡ 31 = cc in ap (λ n. unmoved n m l) it
 denied-first false false e code m l x h = let never : _≡_ {A = ℕ} 0 1 = cc in absurd (omega arith)
 
+-- What denies a step is a code, and not 0.
+denied-by : (t u : Bool) (e code : ℕ) → Denied code ≡ permitOf (pickMoved t Refused (To e)) u → eqb code 0 ≡ false
+denied-by true u e code h = let it : code ≡ 32 = cc in ap (λ n. eqb n 0) it
+denied-by false true e code h = let it : code ≡ 31 = cc in ap (λ n. eqb n 0) it
+denied-by false false e code h = let never : _≡_ {A = ℕ} 0 1 = cc in absurd (omega arith)
+
+pub denied-code : (table : List ℕ) (states operations : ℕ) (m : Shared) (l : Loom) (code : ℕ) → Denied code ≡ mayStep table states operations m l →
+    eqb code 0 ≡ false
+denied-code table states operations m l code h =
+    denied-by (isUnfit table states operations (l .operation) (m .cell)) (hasAnswered (l .place)) (entryOf table states (l .operation) (m .cell)) code h
+
 -- A step that is granted, at the state s.
 granted-last : (t u : Bool) (e s : ℕ) (x y : Outcome) (f : ℕ → Outcome) →
     Granted s ≡ permitOf (pickMoved t Refused (To e)) u → f s ≡ pickOutcome t x (pickOutcome u y (f e))
@@ -133,14 +144,14 @@ granted-last false false e s x y f h = let it : s ≡ e = cc in ap f it
 
 -- A step on the shared memory, one law for each way that it ends.
 module _ (R : Rules) (v : ℕ) (table : List ℕ) (states operations : ℕ) (m : Shared) (l : Loom) where
-  pub step-denied : (code : ℕ) → Denied code ≡ permitOf (fittedOf table states operations (l .operation) (m .cell)) (hasAnswered (l .place))
+  pub step-denied : (code : ℕ) → Denied code ≡ mayStep table states operations m l
       → unmoved code m l ≡ stepOnOf R v table states operations m l
   unfolding stepOnOf
   step-denied code h =
       denied-first (isUnfit table states operations (l .operation) (m .cell)) (hasAnswered (l .place))
       (entryOf table states (l .operation) (m .cell)) code m l (taken (turnedOf R v (entryOf table states (l .operation)) m l)) h
 
-  pub step-granted : (s : ℕ) → Granted s ≡ permitOf (fittedOf table states operations (l .operation) (m .cell)) (hasAnswered (l .place))
+  pub step-granted : (s : ℕ) → Granted s ≡ mayStep table states operations m l
       → taken (turnedOf R v (λ _. s) m l) ≡ stepOnOf R v table states operations m l
   unfolding stepOnOf
   step-granted s h =
@@ -152,15 +163,10 @@ module _ (R : Rules) (v : ℕ) (table : List ℕ) (states operations : ℕ) (m :
       (sym (turned-of-next R v (entryOf table states (l .operation)) m l))
 
 -- A loom put back into its own slot changes nothing.
-put-back : (ls : List Loom) (k : ℕ) → set ls k (getD ls k emptyLoom) ≡ ls
+pub put-back : (ls : List Loom) (k : ℕ) → set ls k (getD ls k emptyLoom) ≡ ls
 put-back [] k = refl
 put-back (l ∷ ls) zero = refl
 put-back (l ∷ ls) (suc k) = ap (λ (r : List Loom). l ∷ r) (put-back ls k)
-
--- The outcome of a step of loom k, with its memory and its loom put in their places in the group.
-abbrev pub inPlace : Group → ℕ → Outcome → Stepped
-inPlace g k r =
-    record { code = r .code; said = r .said; steps = pick (eqb (r .code) 0) (r .loom .steps) 0; group = withLoom (withShared g (r .shared)) k (r .loom) }
 
 -- A group's step, restart of one and restart of all, one law for each way that they end.
 module _ (g : Group) (k : ℕ) where

@@ -1,6 +1,6 @@
 // A group of looms over one cell: opened, stepped and restarted.
 ghost use mathlib.Core.Path.{_≡_};
-ghost use mathlib.Core.Bool.{true};
+ghost use mathlib.Core.Bool.{true, cond};
 ghost use Prim.Native.Nat.{ℕ, _<_, _≤_, min};
 ghost use lib.Dec.{eqb};
 ghost use lib.ListN.{length, getD, take};
@@ -12,7 +12,7 @@ ghost use Rattle.recording.specs.Check.{areaOf};
 ghost use Rattle.loom.specs.Looms.{rulesOf};
 ghost use Rattle.group.specs.Open.{pieces, loomOf, slotsOf, freshGroup, unopened, openedBy, openOf, Held};
 ghost use Rattle.group.specs.Group.{emptyLoom, setOf, numberOf, countOf, yieldingOf, leadOf, noneOf, loomsRestarted};
-ghost use Rattle.group.specs.Step.{fittedOf, hasAnswered, permitOf, unmoved, taken, stepOnOf, refused, stepOf, restartOf, restartAllOf};
+ghost use Rattle.group.specs.Step.{fittedOf, hasAnswered, permitOf, mayStep, unmoved, taken, stepOnOf, refused, stepOf, restartOf, restartAllOf};
 use loom::Lead;
 use loom::Loom;
 use loom::Place;
@@ -48,7 +48,7 @@ pub struct Group {
 }
 
 // Whether a step may be taken: the state that its operation leads to, or the code that refuses it.
-enum Permit {
+pub enum Permit {
     Granted(u8),
     Denied(u8),
 }
@@ -317,6 +317,27 @@ fn permitted(next: cell::Moved, place: Place) -> Permit
     }
 }
 
+// Whether a loom may take a step on the shared memory: 32 where group and table don't fit, then 31 where the loom has answered.
+pub fn may_step(
+    table: &[u8],
+    states: usize,
+    operations: usize,
+    shared: Shared,
+    loom: Loom,
+) -> Permit
+    ensures { λ r. ⌜ r ≡ mayStep (now (table .entry)) states operations shared loom ⌝ }
+{
+    let place = loom.place;
+    let next = fitted(
+        table,
+        states,
+        operations,
+        loom.operation as usize,
+        shared.cell as usize,
+    );
+    permitted(next, place)
+}
+
 // A refused step: the memory and the loom as they were given.
 fn unmoved(code: u8, shared: Shared, loom: Loom) -> Outcome
     ensures { λ r. ⌜ r ≡ unmoved code shared loom ⌝ }
@@ -357,15 +378,7 @@ pub fn step_on(
 ) -> Outcome
     ensures { λ r. ⌜ r ≡ stepOnOf (rulesOf lead) number (now (table .entry)) states operations shared loom ⌝ }
 {
-    let place = loom.place;
-    let next = fitted(
-        table,
-        states,
-        operations,
-        loom.operation as usize,
-        shared.cell as usize,
-    );
-    match permitted(next, place) {
+    match may_step(table, states, operations, shared, loom) {
         Permit::Denied(code) => unmoved(code, shared, loom),
         Permit::Granted(state) => taken(loom::turn(lead, number, state, shared, loom)),
     }
@@ -422,7 +435,7 @@ fn refused(code: u8, group: Group) -> Stepped
 }
 
 // Whether there is no loom of that number among so many, or these are more than 8.
-fn no_loom(count: usize, loom: usize) -> bool
+pub fn no_loom(count: usize, loom: usize) -> bool
     ensures { λ r. ⌜ r ≡ noneOf count loom ⌝ }
 {
     cell::LOOMS < count || count <= loom
@@ -430,7 +443,7 @@ fn no_loom(count: usize, loom: usize) -> bool
 
 // The step count that a step gives: the loom's, and none where it was refused.
 fn count_given(code: u8, steps: u8) -> u8
-    ensures { λ r. ⌜ r ≡ pick (eqb code 0) steps 0 ⌝ }
+    ensures { λ r. ⌜ r ≡ cond (eqb code 0) steps 0 ⌝ }
 {
     if code == 0 { steps } else { 0 }
 }

@@ -8,9 +8,9 @@ use Rattle.cell.specs.Limits.{edition}
 use Rattle.loom.specs.Looms.{rulesOf}
 use Rattle.group.specs.declared.Stepped.{Stepped}
 use Rattle.group.specs.Group.{withLoom, withShared}
-use Rattle.group.specs.Step.{settled}
+use Rattle.group.specs.Step.{settled, inPlace}
 use Rattle.group.specs.GroupLaws.{has-loom}
-use Rattle.group.specs.StepLaws.{settled-in-place, own-step, step-no-loom, step-of-loom, inPlace}
+use Rattle.group.specs.StepLaws.{settled-in-place, own-step, step-no-loom, step-of-loom}
 use borrow.Author.Needs.{needs}
 use Rattle.group.proofs.step.Statement.{statement}
 use Rattle.group.proofs.step.Tie as tie
