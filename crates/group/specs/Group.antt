@@ -87,13 +87,27 @@ withShared g m = record {
   looms = g .looms;
 }
 
+-- The group with other looms.
+abbrev pub withLooms : Group → List Loom → Group
+withLooms g ls = record {
+  count = g .count;
+  start = g .start;
+  sets = g .sets;
+  numbers = g .numbers;
+  shared = g .shared;
+  looms = ls;
+}
+
 -- "30: [...] a group of more than 8."
 abbrev pub tooMany : Group → Bool
 tooMany g = ltb (edition .looms) (g .count)
 
--- "30: no such loom, or a group of more than 8."
+-- "30: no such loom, or a group of more than 8": loom k among so many looms; and of a group.
+abbrev pub noneOf : ℕ → ℕ → Bool
+noneOf count k = ltb (edition .looms) count || leb count k
+
 abbrev pub noLoom : Group → ℕ → Bool
-noLoom g k = tooMany g || leb (g .count) k
+noLoom g k = noneOf (g .count) k
 
 -- "A restart of a loom": of loom k, with the rest of the group as it was.
 abbrev pub restartedAt : Group → ℕ → Group
@@ -103,3 +117,8 @@ restartedAt g k = withLoom g k (restartedOf (loomAt g k))
 unfoldable pub restartedBelow : Group → ℕ → Group
 restartedBelow g zero = g
 restartedBelow g (suc n) = restartedAt (restartedBelow g n) n
+
+-- The same on looms by themselves.
+unfoldable pub loomsRestarted : List Loom → ℕ → List Loom
+loomsRestarted ls zero = ls
+loomsRestarted ls (suc n) = set (loomsRestarted ls n) n (restartedOf (getD (loomsRestarted ls n) n emptyLoom))

@@ -1,6 +1,6 @@
 -- Laws of a group as a value.
 -- Assumes nothing.
-use Prim.Native.Nat.{ℕ, _+_, _≤_, _<_, min}
+use Prim.Native.Nat.{ℕ, zero, suc, _+_, _≤_, _<_, min}
 use native.Mathlib.Decide.{decLe}
 use native.Mathlib.Omega.{arith}
 use native.Mathlib.Numerals.{add-one}
@@ -8,7 +8,7 @@ use mathlib.Core.Path.{_≡_, refl, sym, ap, subst, _∙_}
 use mathlib.Core.Bool.{Bool, true, false, _||_}
 use mathlib.Core.List.{List}
 use lib.Dec.{T, eqb, ltb, leb}
-use lib.ListN.{length, take, drop, getD, length-take, drop-of-length-le}
+use lib.ListN.{length, take, drop, set, getD, length-take, drop-of-length-le}
 use lib.Seq.{drop-cons, getD-take, take-all}
 use borrow.Author.Tests.{ltb-false, leb-false}
 use Rattle.cell.specs.Limits.{edition}
@@ -17,8 +17,9 @@ use Rattle.loom.specs.declared.Side.{Side}
 use Rattle.loom.specs.declared.Loom.{Loom}
 use Rattle.loom.specs.declared.Lead.{Lead}
 use Rattle.loom.specs.Sides.{other, sameSide}
+use Rattle.loom.specs.Looms.{restartedOf}
 use Rattle.group.specs.declared.Group.{Group}
-use Rattle.group.specs.Group.{emptyLoom, setOf, countOf, yieldingOf, leadingOf, leadOf, noLoom, restartedAt, restartedBelow}
+use Rattle.group.specs.Group.{emptyLoom, setOf, countOf, yieldingOf, leadingOf, leadOf, withLooms, noneOf, noLoom, restartedAt, restartedBelow, loomsRestarted}
 
 -- Counting from loom i on is loom i and counting from the next on.
 pub count-from : (s : Side) (looms : List Loom) (n i : ℕ) → i < n → n ≤ length looms →
@@ -55,17 +56,26 @@ take-within n m xs short =
       | no past ↦ let is : min n m ≡ m = omega arith in ap (λ i. take i xs) is ∙ (take-all m xs short ∙ sym (take-all n xs (omega arith)))
     ]
 
--- A loom that a group has is below the group's count, and the count within the limit.
-pub has-loom : (g : Group) (k : ℕ) → noLoom g k ≡ false → (k < g .count) × (g .count ≤ edition .looms)
-has-loom g k = go (ltb (edition .looms) (g .count)) (leb (g .count) k) refl refl
+-- A loom that there is among so many is below their count, and the count within the limit; and so in a group.
+pub has-one : (count k : ℕ) → noneOf count k ≡ false → (k < count) × (count ≤ edition .looms)
+has-one count k = go (ltb (edition .looms) count) (leb count k) refl refl
   where
-    go : (s t : Bool) → ltb (edition .looms) (g .count) ≡ s → leb (g .count) k ≡ t → s || t ≡ false →
-        (k < g .count) × (g .count ≤ edition .looms)
+    go : (s t : Bool) → ltb (edition .looms) count ≡ s → leb count k ≡ t → s || t ≡ false → (k < count) × (count ≤ edition .looms)
     go true t e f none = absurd (subst T none tt)
     go false true e f none = absurd (subst T none tt)
-    go false false e f none = (leb-false (g .count) k f, ltb-false (edition .looms) (g .count) e)
+    go false false e f none = (leb-false count k f, ltb-false (edition .looms) count e)
+
+pub has-loom : (g : Group) (k : ℕ) → noLoom g k ≡ false → (k < g .count) × (g .count ≤ edition .looms)
+has-loom g k = has-one (g .count) k
 
 -- Restarting the looms below i, and then loom i, is restarting those below the next.
-pub restarted-next : (g h : Group) (i : ℕ) → h ≡ restartedBelow g i → restartedAt h i ≡ restartedBelow g (i + 1)
-unfolding restartedBelow
-restarted-next g h i e = rw add-one (ap (λ x. restartedAt x i) e)
+pub restarted-next : (ls first : List Loom) (i : ℕ) → ls ≡ loomsRestarted first i →
+    set ls i (restartedOf (getD ls i emptyLoom)) ≡ loomsRestarted first (i + 1)
+unfolding loomsRestarted
+restarted-next ls first i e = rw add-one (ap (λ x. set x i (restartedOf (getD x i emptyLoom))) e)
+
+-- A restart of the looms below n changes the looms of the group, and nothing else.
+pub restarted-looms : (g : Group) (n : ℕ) → withLooms g (loomsRestarted (g .looms) n) ≡ restartedBelow g n
+unfolding loomsRestarted restartedBelow
+restarted-looms g zero = refl
+restarted-looms g (suc n) = ap (λ h. restartedAt h n) (restarted-looms g n)

@@ -44,6 +44,10 @@ permitOf Refused answered = Denied 32
 permitOf (To s) true = Denied 31
 permitOf (To s) false = Granted s
 
+-- Whether the loom l may take a step on the memory m.
+abbrev pub mayStep : List ℕ → ℕ → ℕ → Shared → Loom → Permit
+mayStep table states operations m l = permitOf (fittedOf table states operations (l .operation) (m .cell)) (hasAnswered (l .place))
+
 -- "A refused step [...] returns what it was given": memory and loom.
 abbrev pub unmoved : ℕ → Shared → Loom → Outcome
 unmoved code m l = record { code = code; said = Nothing; shared = m; loom = l }
@@ -69,6 +73,11 @@ settled g k r =
     cond (eqb (r .code) 0)
     (record { code = 0; said = r .said; steps = r .loom .steps; group = withLoom (withShared g (r .shared)) k (r .loom) })
     (refused (r .code) g)
+
+-- The outcome of a step of loom k with its memory and its loom in their places in the group, whether it was taken or refused.
+abbrev pub inPlace : Group → ℕ → Outcome → Stepped
+inPlace g k r =
+    record { code = r .code; said = r .said; steps = cond (eqb (r .code) 0) (r .loom .steps) 0; group = withLoom (withShared g (r .shared)) k (r .loom) }
 
 -- The step of loom k of a group, on the group's memory, by the group's rules and its side's number.
 abbrev pub ownStep : List ℕ → ℕ → ℕ → Group → ℕ → Outcome

@@ -1,13 +1,13 @@
 -- Laws of a step: one for each way that it ends.
 -- Assumes nothing.
-use Prim.Native.Nat.{ℕ, _*_, _≤_, _<_}
+use Prim.Native.Nat.{ℕ, zero, suc, _*_, _≤_, _<_}
 use native.Mathlib.Omega.{arith}
 use native.Mathlib.Nat.{suc-mul, mul-comm, mul-le-mul, le-refl, lt-of-lt-of-le}
 use mathlib.Core.Path.{_≡_, refl, sym, ap, subst, _∙_}
 use mathlib.Core.Bool.{Bool, true, false, cond}
-use mathlib.Core.List.{List}
-use lib.Dec.{leb}
-use lib.ListN.{length}
+use mathlib.Core.List.{List, [], _∷_}
+use lib.Dec.{eqb, leb}
+use lib.ListN.{length, set, getD}
 use borrow.Author.Tests.{lt-ltb, le-ltb, le-leb, lt-leb, leb-true, leb-false, eq-eqb, ne-eqb}
 use Rattle.cell.specs.declared.Moved.the-variants.{To, Refused}
 use Rattle.cell.specs.Limits.{edition}
@@ -23,8 +23,9 @@ use Rattle.group.specs.declared.Group.{Group}
 use Rattle.group.specs.declared.Permit.the-variants.{Granted, Denied}
 use Rattle.group.specs.declared.Outcome.{Outcome}
 use Rattle.group.specs.declared.Stepped.{Stepped}
-use Rattle.group.specs.Group.{loomAt, numberOf, leadOf, groupRules, withLoom, withShared, noLoom, restartedAt, restartedBelow}
-use Rattle.group.specs.Step.{isUnfit, fittedOf, permitOf, unmoved, taken, stepOnOf, refused, settled, ownStep, stepOf, restarted, restartOf, restartAllOf}
+use Rattle.group.specs.declared.Restarted.{Restarted}
+use Rattle.group.specs.Group.{emptyLoom, loomAt, numberOf, leadOf, groupRules, withLoom, withShared, noLoom, restartedAt, restartedBelow}
+use Rattle.group.specs.Step.{isUnfit, fittedOf, permitOf, mayStep, unmoved, taken, stepOnOf, refused, settled, inPlace, ownStep, stepOf, restarted, restartOf, restartAllOf}
 
 -- Whether group and table fit, one law for each way that it ends.
 module _ (table : List ℕ) (states operations o q : ℕ) where
@@ -121,6 +122,17 @@ denied-first true u e code m l x h = let it : code ≡ 32 = cc in ap (λ n. unmo
 denied-first false true e code m l x h = let it : code ≡ 31 = cc in ap (λ n. unmoved n m l) it
 denied-first false false e code m l x h = let never : _≡_ {A = ℕ} 0 1 = cc in absurd (omega arith)
 
+-- What denies a step is a code, and not 0.
+denied-by : (t u : Bool) (e code : ℕ) → Denied code ≡ permitOf (cond t Refused (To e)) u → eqb code 0 ≡ false
+denied-by true u e code h = let it : code ≡ 32 = cc in ap (λ n. eqb n 0) it
+denied-by false true e code h = let it : code ≡ 31 = cc in ap (λ n. eqb n 0) it
+denied-by false false e code h = let never : _≡_ {A = ℕ} 0 1 = cc in absurd (omega arith)
+
+pub denied-code : (table : List ℕ) (states operations : ℕ) (m : Shared) (l : Loom) (code : ℕ) → Denied code ≡ mayStep table states operations m l →
+    eqb code 0 ≡ false
+denied-code table states operations m l code h =
+    denied-by (isUnfit table states operations (l .operation) (m .cell)) (hasAnswered (l .place)) (entryOf table states (l .operation) (m .cell)) code h
+
 -- A step that is granted, at the state s.
 granted-last : (t u : Bool) (e s : ℕ) (x y : Outcome) (f : ℕ → Outcome) →
     Granted s ≡ permitOf (cond t Refused (To e)) u → f s ≡ cond t x (cond u y (f e))
@@ -130,14 +142,14 @@ granted-last false false e s x y f h = let it : s ≡ e = cc in ap f it
 
 -- A step on the shared memory, one law for each way that it ends.
 module _ (R : Rules) (v : ℕ) (table : List ℕ) (states operations : ℕ) (m : Shared) (l : Loom) where
-  pub step-denied : (code : ℕ) → Denied code ≡ permitOf (fittedOf table states operations (l .operation) (m .cell)) (hasAnswered (l .place))
+  pub step-denied : (code : ℕ) → Denied code ≡ mayStep table states operations m l
       → unmoved code m l ≡ stepOnOf R v table states operations m l
   unfolding stepOnOf
   step-denied code h =
       denied-first (isUnfit table states operations (l .operation) (m .cell)) (hasAnswered (l .place))
       (entryOf table states (l .operation) (m .cell)) code m l (taken (turnedOf R v (entryOf table states (l .operation)) m l)) h
 
-  pub step-granted : (s : ℕ) → Granted s ≡ permitOf (fittedOf table states operations (l .operation) (m .cell)) (hasAnswered (l .place))
+  pub step-granted : (s : ℕ) → Granted s ≡ mayStep table states operations m l
       → taken (turnedOf R v (λ _. s) m l) ≡ stepOnOf R v table states operations m l
   unfolding stepOnOf
   step-granted s h =
@@ -148,18 +160,31 @@ module _ (R : Rules) (v : ℕ) (table : List ℕ) (states operations : ℕ) (m :
       (cond (hasAnswered (l .place)) (unmoved 31 m l) (taken x)))
       (sym (turned-of-next R v (entryOf table states (l .operation)) m l))
 
+-- A loom put back into its own slot changes nothing.
+pub put-back : (ls : List Loom) (k : ℕ) → set ls k (getD ls k emptyLoom) ≡ ls
+put-back [] k = refl
+put-back (l ∷ ls) zero = refl
+put-back (l ∷ ls) (suc k) = ap (λ (r : List Loom). l ∷ r) (put-back ls k)
+
 -- A group's step, restart of one and restart of all, one law for each way that they end.
 module _ (g : Group) (k : ℕ) where
-  pub settled-refused : (r : Outcome) → (r .code ≡ 0 → ⊥) → refused (r .code) g ≡ settled g k r
-  unfolding settled
-  settled-refused r h = simp (ne-eqb _ _ h)
+  -- a refused step puts back what was there, so that a step may always be put in place
+  pub settled-in-place : (table : List ℕ) (states operations : ℕ) (R : Rules) (v : ℕ) →
+      inPlace g k (stepOnOf R v table states operations (g .shared) (loomAt g k))
+      ≡ settled g k (stepOnOf R v table states operations (g .shared) (loomAt g k))
+  unfolding settled stepOnOf
+  settled-in-place table states operations R v =
+      by-tests (isUnfit table states operations (loomAt g k .operation) (g .shared .cell)) (hasAnswered (loomAt g k .place))
+    where
+      out : Bool → Bool → Outcome
+      out s t =
+          cond s (unmoved 32 (g .shared) (loomAt g k))
+          (cond t (unmoved 31 (g .shared) (loomAt g k)) (taken (turnedOf R v (entryOf table states (loomAt g k .operation)) (g .shared) (loomAt g k))))
 
-  pub settled-taken : (r : Outcome) → r .code ≡ 0 →
-      _≡_ {A = Stepped}
-      (record { code = 0; said = r .said; steps = r .loom .steps; group = withLoom (withShared g (r .shared)) k (r .loom) })
-      (settled g k r)
-  unfolding settled
-  settled-taken r h = simp (eq-eqb _ _ h)
+      by-tests : (s t : Bool) → inPlace g k (out s t) ≡ settled g k (out s t)
+      by-tests true t = rw (put-back (g .looms) k)
+      by-tests false true = rw (put-back (g .looms) k)
+      by-tests false false = refl
 
   -- the step of loom k from the group's rules and its side's number, held elsewhere
   pub own-step : (table : List ℕ) (states operations : ℕ) (lead : Lead) (v : ℕ) →

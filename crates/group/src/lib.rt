@@ -1,6 +1,8 @@
 // A group of looms over one cell: opened, stepped and restarted.
 ghost use mathlib.Core.Path.{_≡_};
+ghost use mathlib.Core.Bool.{true, cond};
 ghost use Prim.Native.Nat.{ℕ, _<_, _≤_, min};
+ghost use lib.Dec.{eqb};
 ghost use lib.ListN.{length, getD, take};
 ghost use Rattle.cell.specs.Limits.{edition};
 ghost use Rattle.loom.specs.Sides.{sameSide};
@@ -9,8 +11,8 @@ ghost use Rattle.recording.specs.Check.{areaOf};
 ghost use Rattle.loom.specs.Looms.{rulesOf};
 ghost use Rattle.loom.specs.Turn.{hasAnswered};
 ghost use Rattle.group.specs.Open.{pieces, loomOf, slotsOf, freshGroup, unopened, openedBy, openOf, Held};
-ghost use Rattle.group.specs.Group.{emptyLoom, setOf, numberOf, countOf, yieldingOf, leadOf, withLoom, withShared, noLoom, restartedAt, restartedBelow};
-ghost use Rattle.group.specs.Step.{fittedOf, permitOf, unmoved, taken, stepOnOf, refused, settled, stepOf, restartOf, restartAllOf};
+ghost use Rattle.group.specs.Group.{emptyLoom, setOf, numberOf, countOf, yieldingOf, leadOf, noneOf, loomsRestarted};
+ghost use Rattle.group.specs.Step.{fittedOf, permitOf, mayStep, unmoved, taken, stepOnOf, refused, stepOf, restartOf, restartAllOf};
 use loom::Lead;
 use loom::Loom;
 use loom::Place;
@@ -46,7 +48,7 @@ pub struct Group {
 }
 
 // Whether a step may be taken: the state that its operation leads to, or the code that refuses it.
-enum Permit {
+pub enum Permit {
     Granted(u8),
     Denied(u8),
 }
@@ -315,6 +317,27 @@ fn permitted(next: cell::Moved, place: Place) -> Permit
     }
 }
 
+// Whether a loom may take a step on the shared memory: 32 where group and table don't fit, then 31 where the loom has answered.
+pub fn may_step(
+    table: &[u8],
+    states: usize,
+    operations: usize,
+    shared: Shared,
+    loom: Loom,
+) -> Permit
+    ensures { λ r. ⌜ r ≡ mayStep (now (table .entry)) states operations shared loom ⌝ }
+{
+    let place = loom.place;
+    let next = fitted(
+        table,
+        states,
+        operations,
+        loom.operation as usize,
+        shared.cell as usize,
+    );
+    permitted(next, place)
+}
+
 // A refused step: the memory and the loom as they were given.
 fn unmoved(code: u8, shared: Shared, loom: Loom) -> Outcome
     ensures { λ r. ⌜ r ≡ unmoved code shared loom ⌝ }
@@ -355,15 +378,7 @@ pub fn step_on(
 ) -> Outcome
     ensures { λ r. ⌜ r ≡ stepOnOf (rulesOf lead) number (now (table .entry)) states operations shared loom ⌝ }
 {
-    let place = loom.place;
-    let next = fitted(
-        table,
-        states,
-        operations,
-        loom.operation as usize,
-        shared.cell as usize,
-    );
-    match permitted(next, place) {
+    match may_step(table, states, operations, shared, loom) {
         Permit::Denied(code) => unmoved(code, shared, loom),
         Permit::Granted(state) => taken(loom::turn(lead, number, state, shared, loom)),
     }
@@ -405,41 +420,6 @@ impl Group {
             alone: few == 1,
         }
     }
-
-    // Whether there is no loom of that number, or too many looms.
-    fn no_loom(self, loom: usize) -> bool
-        ensures { λ r. ⌜ r ≡ noLoom self loom ⌝ }
-    {
-        cell::LOOMS < self.count || self.count <= loom
-    }
-
-    // The group with another loom in a slot. Nothing else changes a group's loom.
-    fn with_loom(self, at: usize, loom: Loom) -> Group
-        requires { ⌜ at < edition .looms ⌝ }
-        ensures { λ r. ⌜ r ≡ withLoom self at loom ⌝ }
-    {
-        let mut group = self;
-        group.looms[at] = loom;
-        group
-    }
-
-    // The group with another memory. Nothing else changes a group's memory.
-    fn with_shared(self, shared: Shared) -> Group
-        ensures { λ r. ⌜ r ≡ withShared self shared ⌝ }
-    {
-        let mut group = self;
-        group.shared = shared;
-        group
-    }
-
-    // The group with one of its looms restarted.
-    fn restarted_at(self, at: usize) -> Group
-        requires { ⌜ at < edition .looms ⌝ }
-        ensures { λ r. ⌜ r ≡ restartedAt self at ⌝ }
-    {
-        let loom = self.looms[at];
-        self.with_loom(at, loom.restarted())
-    }
 }
 
 // A refused step: the group as it was given.
@@ -454,25 +434,18 @@ fn refused(code: u8, group: Group) -> Stepped
     }
 }
 
-// What the step of one of its looms comes to in a group.
-fn settled(group: Group, at: usize, outcome: Outcome) -> Stepped
-    requires { ⌜ at < edition .looms ⌝ }
-    ensures { λ r. ⌜ r ≡ settled group at outcome ⌝ }
+// Whether there is no loom of that number among so many, or these are more than 8.
+pub fn no_loom(count: usize, loom: usize) -> bool
+    ensures { λ r. ⌜ r ≡ noneOf count loom ⌝ }
 {
-    let code = outcome.code;
-    if code != 0 {
-        return refused(code, group);
-    }
-    let said = outcome.said;
-    let shared = outcome.shared;
-    let loom = outcome.loom;
-    let after = group.with_shared(shared).with_loom(at, loom);
-    Stepped {
-        code: 0,
-        said,
-        steps: loom.steps,
-        group: after,
-    }
+    cell::LOOMS < count || count <= loom
+}
+
+// The step count that a step gives: the loom's, and none where it was refused.
+fn count_given(code: u8, steps: u8) -> u8
+    ensures { λ r. ⌜ r ≡ cond (eqb code 0) steps 0 ⌝ }
+{
+    if code == 0 { steps } else { 0 }
 }
 
 // One step of a loom of a group. Refuses with 30 where there is no such loom or the group has more than 8, then with 32 where group and
@@ -480,15 +453,16 @@ fn settled(group: Group, at: usize, outcome: Outcome) -> Stepped
 pub fn step(group: Group, table: &[u8], states: usize, operations: usize, loom: usize) -> Stepped
     ensures { λ r. ⌜ r ≡ stepOf (now (table .entry)) states operations group loom ⌝ }
 {
-    if group.no_loom(loom) {
+    if no_loom(group.count, loom) {
         return refused(30, group);
     }
-    let own = group.looms[loom];
+    let mut after = group;
+    let own = after.looms[loom];
     let side = own.side;
-    let numbers = group.numbers;
-    let memory = group.shared;
+    let numbers = after.numbers;
+    let memory = after.shared;
     let outcome = step_on(
-        group.lead(),
+        after.lead(),
         numbers.of(side),
         table,
         states,
@@ -496,18 +470,33 @@ pub fn step(group: Group, table: &[u8], states: usize, operations: usize, loom: 
         memory,
         own,
     );
-    settled(group, loom, outcome)
+    let said = outcome.said;
+    let left = outcome.shared;
+    let moved = outcome.loom;
+    after.shared = left;
+    after.looms[loom] = moved;
+    Stepped {
+        code: outcome.code,
+        said,
+        steps: count_given(outcome.code, moved.steps),
+        group: after,
+    }
 }
 
 // A restart of one loom, in any place. Refuses with 30 where there is no such loom or the group has more than 8.
 pub fn restart(group: Group, loom: usize) -> Restarted
     ensures { λ r. ⌜ r ≡ restartOf group loom ⌝ }
 {
-    if group.no_loom(loom) {
+    if no_loom(group.count, loom) {
         return Restarted { code: 30, group };
     }
-    let group = group.restarted_at(loom);
-    Restarted { code: 0, group }
+    let mut out = group;
+    let own = out.looms[loom];
+    out.looms[loom] = own.restarted();
+    Restarted {
+        code: 0,
+        group: out,
+    }
 }
 
 // A restart of every loom of a group. Refuses with 30 where the group has more than 8.
@@ -517,20 +506,26 @@ pub fn restart_all(group: Group) -> Restarted
     if cell::LOOMS < group.count {
         return Restarted { code: 30, group };
     }
-    let group = restarted_below(group, group.count);
-    Restarted { code: 0, group }
+    let looms = group.looms;
+    let restarted = restarted_below(looms, group.count);
+    let mut out = group;
+    out.looms = restarted;
+    Restarted {
+        code: 0,
+        group: out,
+    }
 }
 
-// The group with its looms below a number restarted.
-fn restarted_below(group: Group, count: usize) -> Group
-    requires { ⌜ count ≤ edition .looms ⌝ }
-    ensures { λ r. ⌜ r ≡ restartedBelow group count ⌝ }
+// The looms with those below a number restarted, or all of them where they are fewer.
+pub fn restarted_below(looms: [Loom; 8], count: usize) -> [Loom; 8]
+    ensures { λ r. ⌜ r ≡ loomsRestarted looms (min count (edition .looms)) ⌝ }
 {
-    let mut out = group;
+    let few = within(count);
+    let mut out = looms;
     let mut i = 0;
-    while i < count {
-        let new = out.restarted_at(i);
-        out = new;
+    while i < few {
+        let own = out[i];
+        out[i] = own.restarted();
         i += 1;
     }
     out

@@ -1,43 +1,59 @@
--- A run's acts as the code takes them: what is counted, apart from the group, and a step by what the looms go by from the first.
+-- A run's acts as the code takes them: what is counted, apart from the group; the looms and the memory, apart from the rest of it.
 -- Assumes nothing.
 use Prim.Native.Nat.{ℕ, _+_, max}
-use mathlib.Core.Bool.{Bool, false, cond, _||_}
-use lib.Dec.{eqb, leb, ltb}
+use mathlib.Core.Bool.{Bool, false, cond}
+use mathlib.Core.List.{List}
+use lib.Dec.{eqb, ltb}
+use lib.ListN.{set, getD}
 use Rattle.cell.specs.Limits.{edition}
 use Rattle.recording.specs.Recording.{one}
-use Rattle.loom.specs.Numbers.{saidApplied}
+use Rattle.loom.specs.declared.Loom.{Loom}
+use Rattle.loom.specs.declared.Shared.{Shared}
+use Rattle.loom.specs.declared.Turned.{Turned}
+use Rattle.loom.specs.Looms.{restartedOf}
+use Rattle.loom.specs.Numbers.{saidNumber, saidApplied}
 use Rattle.group.specs.declared.Group.{Group}
-use Rattle.group.specs.declared.Outcome.{Outcome}
-use Rattle.group.specs.Step.{restartOf, restartAllOf}
+use Rattle.group.specs.Group.{emptyLoom, withShared, withLooms, noneOf, loomsRestarted}
 use Rattle.schedule.specs.declared.Act.{Act}
 use Rattle.schedule.specs.declared.Act.the-variants.{Step, Restart, RestartAll, Unknown}
 use Rattle.schedule.specs.declared.Noted.{Noted}
 use Rattle.schedule.specs.declared.Tally.{Tally}
 use Rattle.schedule.specs.declared.Acted.{Acted}
 use Rattle.schedule.specs.declared.Ran.{Ran}
-use Rattle.schedule.specs.Played.{markOf}
 
--- What a step is counted by in a run; a refused step gives no count. What isn't a step counts for nothing.
-abbrev pub noteOf : Outcome → Noted
-noteOf r = record { mark = markOf (r .code) (r .said); applied = eqb (saidApplied (r .said)) 1; steps = cond (eqb (r .code) 0) (r .loom .steps) 0 }
+-- What an act that moves no loom is counted by: its mark, and nothing else.
+abbrev pub unmovedNote : ℕ → Noted
+unmovedNote mark = record { mark = mark; applied = false; steps = 0 }
 
-abbrev pub noNote : Noted
-noNote = record { mark = 0; applied = false; steps = 0 }
+-- What a step that was taken is counted by.
+abbrev pub movedNote : Turned → Noted
+movedNote t = record { mark = saidNumber (t .said); applied = eqb (saidApplied (t .said)) 1; steps = t .loom .steps }
 
 -- The act of what it is counted by and the group that it leaves.
 abbrev pub actedBy : Noted → Group → Acted
 actedBy n g = record { mark = n .mark; applied = n .applied; steps = n .steps; group = g }
 
--- Whether an entry is no step of a loom of a group of so many, or these are beyond the limit.
-abbrev pub noStep : ℕ → ℕ → Bool
-noStep count entry = ltb (edition .looms) count || leb count entry
+-- The group that opened, with the looms and the memory that a run has come to.
+abbrev pub standing : Group → List Loom → Shared → Group
+standing g ls m = withLooms (withShared g m) ls
 
--- The group after an act that is no step of one of its looms.
-abbrev pub restartedBy : Group → Act → Group
-restartedBy g (Step k) = g
-restartedBy g (Restart k) = restartOf g k .group
-restartedBy g RestartAll = restartAllOf g .group
-restartedBy g Unknown = g
+-- The looms, so many of them, with loom k restarted; and all restarted. They are as they were where 30 refuses the restart.
+abbrev pub oneRestarted : List Loom → ℕ → ℕ → List Loom
+oneRestarted ls count k = cond (noneOf count k) ls (set ls k (restartedOf (getD ls k emptyLoom)))
+
+abbrev pub allRestarted : List Loom → ℕ → List Loom
+allRestarted ls count = cond (ltb (edition .looms) count) ls (loomsRestarted ls count)
+
+-- The looms after an act that is no step of one of them.
+abbrev pub restartedBy : List Loom → ℕ → Act → List Loom
+restartedBy ls count (Step k) = ls
+restartedBy ls count (Restart k) = oneRestarted ls count k
+restartedBy ls count RestartAll = allRestarted ls count
+restartedBy ls count Unknown = ls
+
+-- Nothing counted yet.
+abbrev pub noTally : Tally
+noTally = record { entries = 0; a = 0; b = 0; applied = 0; longest = 0 }
 
 -- What is counted, with one act more.
 unfoldable pub tallied : Tally → Noted → Tally

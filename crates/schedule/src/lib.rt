@@ -3,26 +3,26 @@ ghost use mathlib.Core.Path.{_≡_};
 ghost use mathlib.Core.Bool.{cond};
 ghost use mathlib.Core.List.{_++_};
 ghost use Prim.Native.Nat.{_<_, _≤_, max};
-ghost use lib.Dec.{eqb};
 ghost use lib.ListN.{length, drop};
 ghost use Rattle.cell.specs.Limits.{edition};
 ghost use Rattle.recording.specs.Recording.{one};
 ghost use Rattle.recording.specs.Check.{areaOf};
+ghost use Rattle.loom.specs.declared.Said.the-variants.{Nothing};
 ghost use Rattle.group.specs.Open.{pieces, noGroup};
 ghost use Rattle.schedule.specs.Acts.{actOf, isNamed, allNamed};
 ghost use Rattle.schedule.specs.Played.{markOf, begun, playedOf, marksOf};
-ghost use Rattle.schedule.specs.InPlace.{noteOf, noNote, noStep, restartedBy, tallied, ranBy};
+ghost use Rattle.schedule.specs.InPlace.{unmovedNote, movedNote, standing, oneRestarted, allRestarted, restartedBy, noTally, tallied, ranBy};
 ghost use Rattle.schedule.specs.Run.{refusalOf, codeOf, unrun, ranOf, markedOf, runOf, bufferOf};
 use group::Group;
 use group::Numbers;
 use group::Opened;
-use group::Outcome;
+use group::Permit;
 use group::Sets;
 use loom::Loom;
 use loom::Place;
-use loom::Said;
 use loom::Shared;
 use loom::Side;
+use loom::Turned;
 use recording::Certificate;
 
 // From this entry on, an entry is a restart of a loom.
@@ -231,70 +231,76 @@ fn all_named(count: usize, schedule: &[u8]) -> bool
     true
 }
 
-// The mark of a step: 3 where it was refused with 31, else by what it says.
-fn mark_of(code: u8, said: Said) -> u8
-    ensures { λ r. ⌜ r ≡ markOf code said ⌝ }
+// An entry as a number.
+fn wide(entry: u8) -> usize
+    ensures { λ r. ⌜ r ≡ entry ⌝ }
 {
-    if code == 31 {
-        3
-    } else {
-        loom::said_number(said)
-    }
+    entry as usize
 }
 
-// The step count that a step gives: the loom's, and none where it was refused.
-fn count_given(code: u8, steps: u8) -> u8
-    ensures { λ r. ⌜ r ≡ cond (eqb code 0) steps 0 ⌝ }
+// The mark of a refused step: 3 where it was refused with 31.
+fn mark_of(code: u8) -> u8
+    ensures { λ r. ⌜ r ≡ markOf code Nothing ⌝ }
 {
-    if code == 0 { steps } else { 0 }
+    if code == 31 { 3 } else { 0 }
 }
 
-// What a step is counted by in a run.
-fn note_of(outcome: Outcome) -> Noted
-    ensures { λ r. ⌜ r ≡ noteOf outcome ⌝ }
-{
-    let said = outcome.said;
-    let loom = outcome.loom;
-    Noted {
-        mark: mark_of(outcome.code, said),
-        applied: loom::said_applied(said) == 1,
-        steps: count_given(outcome.code, loom.steps),
-    }
-}
-
-// What an act that isn't a step is counted by.
-fn no_note() -> Noted
-    ensures { λ r. ⌜ r ≡ noNote ⌝ }
+// What an act that moves no loom is counted by: its mark, and nothing else.
+fn unmoved(mark: u8) -> Noted
+    ensures { λ r. ⌜ r ≡ unmovedNote mark ⌝ }
 {
     Noted {
-        mark: 0,
+        mark,
         applied: false,
         steps: 0,
     }
 }
 
-// Whether an entry is no step of a loom of `count`, or these are more than 8.
-fn no_step(count: usize, entry: u8) -> bool
-    ensures { λ r. ⌜ r ≡ noStep count entry ⌝ }
+// What a step that was taken is counted by.
+fn moved(turned: Turned) -> Noted
+    ensures { λ r. ⌜ r ≡ movedNote turned ⌝ }
 {
-    cell::LOOMS < count || count <= entry as usize
+    let said = turned.said;
+    let loom = turned.loom;
+    Noted {
+        mark: loom::said_number(said),
+        applied: loom::said_applied(said) == 1,
+        steps: loom.steps,
+    }
 }
 
-// A group after an act that is no step of one of its looms.
-fn restarted(group: Group, act: Act) -> Group
-    ensures { λ r. ⌜ r ≡ restartedBy group act ⌝ }
+// The looms with one of so many restarted; as they are where there is no such loom.
+fn one_restarted(looms: [Loom; 8], count: usize, at: usize) -> [Loom; 8]
+    ensures { λ r. ⌜ r ≡ oneRestarted looms count at ⌝ }
+{
+    if group::no_loom(count, at) {
+        return looms;
+    }
+    let mut out = looms;
+    let own = out[at];
+    out[at] = own.restarted();
+    out
+}
+
+// The looms, so many of them, all restarted; as they are where these are more than 8.
+fn all_restarted(looms: [Loom; 8], count: usize) -> [Loom; 8]
+    ensures { λ r. ⌜ r ≡ allRestarted looms count ⌝ }
+{
+    if cell::LOOMS < count {
+        return looms;
+    }
+    group::restarted_below(looms, count)
+}
+
+// The looms after an act that is no step of one of them.
+fn restarted(looms: [Loom; 8], count: usize, act: Act) -> [Loom; 8]
+    ensures { λ r. ⌜ r ≡ restartedBy looms count act ⌝ }
 {
     match act {
-        Act::Step(_) => group,
-        Act::Restart(loom) => {
-            let restarted = group::restart(group, loom);
-            restarted.group
-        }
-        Act::RestartAll => {
-            let restarted = group::restart_all(group);
-            restarted.group
-        }
-        Act::Unknown => group,
+        Act::Step(_) => looms,
+        Act::Restart(loom) => one_restarted(looms, count, loom),
+        Act::RestartAll => all_restarted(looms, count),
+        Act::Unknown => looms,
     }
 }
 
@@ -328,10 +334,26 @@ impl Tally {
     }
 }
 
-// The run of a tally and the group that it has come to.
-fn finished(tally: Tally, group: Group) -> Ran
-    ensures { λ r. ⌜ r ≡ ranBy tally group ⌝ }
+// Nothing counted yet.
+fn no_tally() -> Tally
+    ensures { λ r. ⌜ r ≡ noTally ⌝ }
 {
+    Tally {
+        entries: 0,
+        a: 0,
+        b: 0,
+        applied: 0,
+        longest: 0,
+    }
+}
+
+// The run of a tally, and of the group with the looms and the memory that it has come to.
+fn finished(tally: Tally, opening: Group, looms: [Loom; 8], memory: Shared) -> Ran
+    ensures { λ r. ⌜ r ≡ ranBy tally (standing opening looms memory) ⌝ }
+{
+    let mut group = opening;
+    group.looms = looms;
+    group.shared = memory;
     Ran {
         code: 0,
         group,
@@ -343,7 +365,8 @@ fn finished(tally: Tally, group: Group) -> Ran
     }
 }
 
-// Takes each entry in order, and writes its mark. A step is taken in place, by what the looms go by from the first: no act changes that.
+// Takes each entry in order, and writes its mark. The looms and the memory are changed in place; what the looms go by is worked out once,
+// since no act changes it.
 fn play(
     opening: Group,
     table: &[u8],
@@ -358,38 +381,40 @@ fn play(
 {
     let lead = opening.lead();
     let numbers = opening.numbers;
-    let mut group = opening;
-    let mut tally = Tally {
-        entries: 0,
-        a: 0,
-        b: 0,
-        applied: 0,
-        longest: 0,
-    };
+    let count = opening.count;
+    let mut looms = opening.looms;
+    let mut memory = opening.shared;
+    let mut tally = no_tally();
     let mut taken = 0;
     while taken < schedule.len() {
         let entry = schedule[taken];
-        let mut acted = no_note();
-        if no_step(group.count, entry) {
-            let new = restarted(group, act_of(entry));
-            group = new;
+        let at = wide(entry);
+        let mut acted = unmoved(0);
+        if group::no_loom(count, at) {
+            let new = restarted(looms, count, act_of(entry));
+            looms = new;
         } else {
-            let at = entry as usize;
-            let own = group.looms[at];
-            let memory = group.shared;
+            let own = looms[at];
             let side = own.side;
             let number = numbers.of(side);
-            let outcome = group::step_on(lead, number, table, states, operations, memory, own);
-            let left = outcome.shared;
-            let moved = outcome.loom;
-            group.shared = left;
-            group.looms[at] = moved;
-            acted = note_of(outcome);
+            match group::may_step(table, states, operations, memory, own) {
+                Permit::Denied(code) => {
+                    acted = unmoved(mark_of(code));
+                }
+                Permit::Granted(state) => {
+                    let turned = loom::turn(lead, number, state, memory, own);
+                    let left = turned.shared;
+                    let stepped = turned.loom;
+                    memory = left;
+                    looms[at] = stepped;
+                    acted = moved(turned);
+                }
+            }
         }
         marks[taken] = acted.mark;
         let new = tally.with_noted(acted);
         tally = new;
         taken += 1;
     }
-    finished(tally, group)
+    finished(tally, opening, looms, memory)
 }

@@ -1,7 +1,12 @@
 -- `group::restart_all` meets its contract: too many looms, or every loom restarted.
 -- Assumes nothing.
-use mathlib.Core.Path.{ap, _∙_}
+use Prim.Native.Nat.{min}
+use native.Mathlib.Omega.{arith}
+use mathlib.Core.Path.{_≡_, ap, _∙_}
+use Rattle.cell.specs.Limits.{edition}
+use Rattle.group.specs.Group.{withLooms, loomsRestarted}
 use Rattle.group.specs.Step.{restarted}
+use Rattle.group.specs.GroupLaws.{restarted-looms}
 use Rattle.group.specs.StepLaws.{restart-too-many, restart-all-of}
 use borrow.Author.Needs.{needs}
 use Rattle.group.proofs.restart_all.Statement.{statement}
@@ -15,7 +20,11 @@ restarted-below-requires c κs = search needs
 
 returns-2 : tie.Need-returns-2
 returns-2 c =
-    ap (restarted 0) (c .restarted-below .ensures) ∙ restart-all-of (c .before .before .before .args .group) (c .before .if1 .left)
+    let g = c .before .before .before .before .args .group in
+    let all : min (g .count) (edition .looms) ≡ g .count = omega (arith, c .before .before .if1 .left) in
+    ap (λ ls. restarted 0 (withLooms g ls)) (c .restarted-below .ensures ∙ ap (loomsRestarted (g .looms)) all)
+    ∙ (ap (restarted 0) (restarted-looms g (g .count))
+    ∙ restart-all-of g (c .before .before .if1 .left))
 
 pub restart-all-spec : {M : Type 1} → statement M
 restart-all-spec = tie.close (tie.spec returns restarted-below-requires returns-2)

@@ -1,14 +1,27 @@
--- `group::step` meets its contract: no such loom, or the step of that loom by the group's rules, settled in the group.
+-- `group::step` meets its contract: no such loom, or the step of that loom by the group's rules, put in its place in the group.
 -- Assumes nothing.
 use native.Mathlib.Omega.{arith}
 use mathlib.Core.Path.{sym, ap, _∙_}
+use Prim.Native.Nat.{_<_, _≤_}
 use denote.Ref.{now}
-use Rattle.group.specs.Step.{settled}
+use Rattle.cell.specs.Limits.{edition}
+use Rattle.loom.specs.Looms.{rulesOf}
+use Rattle.group.specs.declared.Stepped.{Stepped}
+use Rattle.group.specs.Group.{withLoom, withShared}
+use Rattle.group.specs.Step.{settled, inPlace}
 use Rattle.group.specs.GroupLaws.{has-loom}
-use Rattle.group.specs.StepLaws.{own-step, step-no-loom, step-of-loom}
+use Rattle.group.specs.StepLaws.{settled-in-place, own-step, step-no-loom, step-of-loom}
 use borrow.Author.Needs.{needs}
 use Rattle.group.proofs.step.Statement.{statement}
 use Rattle.group.proofs.step.Tie as tie
+
+-- past the test there is such a loom
+below : (c : tie.Else1) →
+    let a = c .before .before .before .args in
+    (a .loom < a .group .count) × (a .group .count ≤ edition .looms)
+below c =
+    let a = c .before .before .before .args in
+    has-loom (a .group) (a .loom) (sym (c .before .no-loom .ensures) ∙ c .if1 .left)
 
 no-loom-requires : tie.Need-no-loom-requires
 no-loom-requires c κs = search needs
@@ -20,19 +33,13 @@ returns : tie.Need-returns
 returns c =
     let a = c .before .before .before .before .args in
     c .refused .ensures
-    ∙ step-no-loom (a .t1) (a .loom) (now (a .table)) (a .states) (a .operations) (sym (c .before .before .no-loom .ensures) ∙ c .before .if1 .taken)
+    ∙ step-no-loom (a .group) (a .loom) (now (a .table)) (a .states) (a .operations) (sym (c .before .before .no-loom .ensures) ∙ c .before .if1 .taken)
 
 mul-own : tie.Need-mul-own
-mul-own c =
-    let a = c .before .before .before .args in
-    let h = has-loom (a .t1) (a .loom) (sym (c .before .no-loom .ensures) ∙ c .if1 .left) in
-    omega arith
+mul-own c = let h = below c in omega arith
 
 element-copy-out-own : tie.Need-element-copy-out-own
-element-copy-out-own c =
-    let a = c .before .before .before .args in
-    let h = has-loom (a .t1) (a .loom) (sym (c .before .no-loom .ensures) ∙ c .if1 .left) in
-    omega arith
+element-copy-out-own c = let h = below c in omega arith
 
 lead-requires : tie.Need-lead-requires
 lead-requires c κs = search needs
@@ -43,21 +50,28 @@ of-requires c κs = search needs
 step-on-requires : tie.Need-step-on-requires
 step-on-requires c κs = search needs
 
-settled-requires : tie.Need-settled-requires
-settled-requires c κs =
-    let a = c .before .before .before .before .before .before .before .before .before .args in
-    let h = has-loom (a .t1) (a .loom) (sym (c .before .before .before .before .before .before .before .no-loom .ensures) ∙ c .before .before .before .before .before .before .if1 .left) in
-    omega arith
+mul-moved : tie.Need-mul-moved
+mul-moved c = let h = below (c .before .before .before .before .before .before .before .before) in omega arith
+
+element-set-from-moved : tie.Need-element-set-from-moved
+element-set-from-moved c = let h = below (c .before .before .before .before .before .before .before .before) in omega arith
+
+count-given-requires : tie.Need-count-given-requires
+count-given-requires c κs = search needs
 
 returns-2 : tie.Need-returns-2
 returns-2 c =
-    let a = c .before .before .before .before .before .before .before .before .before .before .args in
-    c .settled .ensures
-    ∙ (ap (settled (a .t1) (a .loom))
-    (c .before .step-on .ensures
-    ∙ own-step (a .t1) (a .loom) (now (a .table)) (a .states) (a .operations) (c .before .before .before .lead .result) (c .before .before .of .result) (c .before .before .before .lead .ensures)
-    (c .before .before .of .ensures))
-    ∙ step-of-loom (a .t1) (a .loom) (now (a .table)) (a .states) (a .operations) (sym (c .before .before .before .before .before .before .before .before .no-loom .ensures) ∙ c .before .before .before .before .before .before .before .if1 .left))
+    let a = c .before .before .before .before .before .before .before .before .before .before .before .before .args in
+    let has = c .before .before .before .before .before .before .before .before .before in
+    let lead = c .before .before .before .before .before .lead in
+    let number = c .before .before .before .before .of in
+    let out = c .before .before .before .step-on in
+    let r = out .result in
+    ap {B = Stepped} (λ n. record { code = r .code; said = r .said; steps = n; group = withLoom (withShared (a .group) (r .shared)) (a .loom) (r .loom) }) (c .count-given .ensures)
+    ∙ (ap (inPlace (a .group) (a .loom)) (out .ensures)
+    ∙ (settled-in-place (a .group) (a .loom) (now (a .table)) (a .states) (a .operations) (rulesOf (lead .result)) (number .result)
+    ∙ (ap (settled (a .group) (a .loom)) (own-step (a .group) (a .loom) (now (a .table)) (a .states) (a .operations) (lead .result) (number .result) (lead .ensures) (number .ensures))
+    ∙ step-of-loom (a .group) (a .loom) (now (a .table)) (a .states) (a .operations) (sym (has .before .no-loom .ensures) ∙ has .if1 .left))))
 
 pub step-spec : {M : Type 1} → statement M
 step-spec =
@@ -71,5 +85,7 @@ step-spec =
     lead-requires
     of-requires
     step-on-requires
-    settled-requires
+    mul-moved
+    element-set-from-moved
+    count-given-requires
     returns-2)

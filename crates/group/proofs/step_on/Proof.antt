@@ -3,24 +3,14 @@
 use mathlib.Core.Path.{sym, ap, _∙_}
 use denote.Ref.{now}
 use Rattle.loom.specs.Looms.{rulesOf}
-use Rattle.loom.specs.Turn.{hasAnswered}
-use Rattle.group.specs.Step.{permitOf, taken}
+use Rattle.group.specs.Step.{taken}
 use Rattle.group.specs.StepLaws.{step-denied, step-granted}
 use borrow.Author.Needs.{needs}
 use Rattle.group.proofs.step_on.Statement.{statement}
 use Rattle.group.proofs.step_on.Tie as tie
 
-cast-fitted : tie.Need-cast-fitted
-cast-fitted c = search needs
-
-cast-fitted-2 : tie.Need-cast-fitted-2
-cast-fitted-2 c = search needs
-
-fitted-requires : tie.Need-fitted-requires
-fitted-requires c κs = search needs
-
-permitted-requires : tie.Need-permitted-requires
-permitted-requires c κs = search needs
+may-step-requires : tie.Need-may-step-requires
+may-step-requires c κs = search needs
 
 enum-known-code : tie.Need-enum-known-code
 enum-known-code c = search needs
@@ -39,27 +29,24 @@ taken-requires c κs = search needs
 
 returns : tie.Need-returns
 returns c =
-    let a = c .before .before .before .before .before .before .before .before .before .args in
+    let a = c .before .before .before .before .before .before .args in
     c .unmoved .ensures
     ∙ step-denied (rulesOf (a .lead)) (a .number) (now (a .table)) (a .states) (a .operations) (a .shared) (a .loom) _
-    (sym (c .before .before .code .given .1) ∙ (c .before .before .before .before .permitted .ensures ∙ ap (λ x. permitOf x (hasAnswered (a .loom .place))) (c .before .before .before .before .before .fitted .ensures)))
+    (sym (c .before .before .code .given .1) ∙ c .before .before .before .before .may-step .ensures)
 
 returns-2 : tie.Need-returns-2
 returns-2 c =
-    let a = c .before .before .before .before .before .before .before .before .before .before .args in
+    let a = c .before .before .before .before .before .before .before .args in
     c .taken .ensures
     ∙ (ap taken (c .before .turn .ensures)
     ∙ step-granted (rulesOf (a .lead)) (a .number) (now (a .table)) (a .states) (a .operations) (a .shared) (a .loom) _
-    (sym (c .before .before .before .state .given .1) ∙ (c .before .before .before .before .before .permitted .ensures ∙ ap (λ x. permitOf x (hasAnswered (a .loom .place))) (c .before .before .before .before .before .before .fitted .ensures))))
+    (sym (c .before .before .before .state .given .1) ∙ c .before .before .before .before .before .may-step .ensures))
 
 pub step-on-spec : {M : Type 1} → statement M
 step-on-spec =
     tie.close
     (tie.spec
-    cast-fitted
-    cast-fitted-2
-    fitted-requires
-    permitted-requires
+    may-step-requires
     enum-known-code
     unmoved-requires
     enum-known-state

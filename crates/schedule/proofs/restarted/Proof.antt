@@ -1,4 +1,4 @@
--- `schedule::restarted` meets its contract: each restart is the group's own.
+-- `schedule::restarted` meets its contract: each restart by its own function.
 -- Assumes nothing.
 use mathlib.Core.Path.{sym, ap, _∙_}
 use Rattle.schedule.specs.InPlace.{restartedBy}
@@ -12,14 +12,14 @@ enum-told c = search needs
 enum-known-act : tie.Need-enum-known-act
 enum-known-act c = search needs
 
-restart-requires : tie.Need-restart-requires
-restart-requires c κs = search needs
+one-restarted-requires : tie.Need-one-restarted-requires
+one-restarted-requires c κs = search needs
 
 enum-told-2 : tie.Need-enum-told-2
 enum-told-2 c = search needs
 
-restart-all-requires : tie.Need-restart-all-requires
-restart-all-requires c κs = search needs
+all-restarted-requires : tie.Need-all-restarted-requires
+all-restarted-requires c κs = search needs
 
 enum-told-3 : tie.Need-enum-told-3
 enum-told-3 c = search needs
@@ -29,13 +29,13 @@ returns c = search needs
 
 returns-2 : tie.Need-returns-2
 returns-2 c =
-    let a = c .before .before .before .before .before .args in
-    ap (λ r. r .group) (c .before .restart .ensures) ∙ sym (ap (restartedBy (a .group)) (c .before .before .before .act .given .1))
+    let a = c .before .before .before .before .args in
+    c .one-restarted .ensures ∙ sym (ap (restartedBy (a .looms) (a .count)) (c .before .before .act .given .1))
 
 returns-3 : tie.Need-returns-3
 returns-3 c =
-    let a = c .before .before .before .before .args in
-    ap (λ r. r .group) (c .before .restart-all .ensures) ∙ sym (ap (restartedBy (a .group)) (c .before .before .enum-told2 .given .1))
+    let a = c .before .before .before .args in
+    c .all-restarted .ensures ∙ sym (ap (restartedBy (a .looms) (a .count)) (c .before .enum-told2 .given .1))
 
 returns-4 : tie.Need-returns-4
 returns-4 c = search needs
@@ -46,9 +46,9 @@ restarted-spec =
     (tie.spec
     enum-told
     enum-known-act
-    restart-requires
+    one-restarted-requires
     enum-told-2
-    restart-all-requires
+    all-restarted-requires
     enum-told-3
     returns
     returns-2

@@ -1,8 +1,8 @@
--- `schedule::count_given` meets its contract: by the code.
+-- `group::count_given` meets its contract: by the code.
 -- Assumes nothing.
 use borrow.Author.Tests.{eq-eqb, ne-eqb}
-use Rattle.schedule.proofs.count_given.Statement.{statement}
-use Rattle.schedule.proofs.count_given.Tie as tie
+use Rattle.group.proofs.count_given.Statement.{statement}
+use Rattle.group.proofs.count_given.Tie as tie
 
 returns : tie.Need-returns
 returns c = simp (eq-eqb _ _ (c .if1 .taken))
