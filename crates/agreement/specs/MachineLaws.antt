@@ -57,7 +57,11 @@ module _ (next : ℕ → ℕ → ℕ) (looms : List Seat) (R : Rules) where
       by-test true = changed-other (S .place) j _ k apart
       by-test false = refl
 
-  -- A restart of another loom doesn't move it.
+  -- A restarted loom is at begin, and every other where it was.
+  pub place-restarted : (S : State) (k : ℕ) → acted next looms R (restart k) S .place k ≡ Begin
+  unfolding acted
+  place-restarted S k = changed-itself (S .place) k Begin
+
   pub place-unrestarted : (S : State) (j k : ℕ) → (k ≡ j → ⊥) → acted next looms R (restart j) S .place k ≡ S .place k
   unfolding acted
   place-unrestarted S j k apart = changed-other (S .place) j Begin k apart
