@@ -81,7 +81,7 @@ module _ (L : Limits) (s : List ℕ) (P : Plan) where
       then-passes _ _ head (then-passes _ _ certificate (then-passes _ _ pieces (then-passes _ _ (h .schedule) (then-passes _ _ (h .acts) (h .end)))))
 
 -- What the limits say of a field that passes.
-limits : (low end code : ℕ) (s : List ℕ) (p : ℕ) → Passed (fieldAt (within low end) code s p) → (low ≤ wordAt s p) × (wordAt s p < end)
+pub limits : (low end code : ℕ) (s : List ℕ) (p : ℕ) → Passed (fieldAt (within low end) code s p) → (low ≤ wordAt s p) × (wordAt s p < end)
 limits low end code s p (v, h) = within-taken low end (wordAt s p) (field-taken (within low end) code s p v h .good)
 
 -- one of two tests that hold together by either

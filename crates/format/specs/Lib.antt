@@ -1,4 +1,5 @@
 pub mod Accepted
+pub mod CodedLaws
 pub mod Format
 pub mod FormatLaws
 pub mod Layout

@@ -4,4 +4,6 @@ pub mod Only
 pub mod Order
 pub mod OrderLaws
 pub mod ReadLaws
+pub mod ReadsPass
+pub mod ReadsPassLaws
 pub mod Worked
