@@ -30,10 +30,10 @@ use Rattle.format.specs.CodedLaws.{Coded, refused, verdict-coded}
 use Rattle.format.specs.Format.{itemAt, seatAt, seatsAt, sidesAt, verdictOf}
 use Rattle.format.specs.Layout.{planOf}
 use Rattle.order.specs.declared.Order.{Order}
-use Rattle.order.specs.Order.{tableRoom, readingOf, wordsAt, noSeats, seatsOf, acceptedOf, orderOf, tableAfter, ReadsTo}
+use Rattle.order.specs.Order.{tableRoom, readingOf, wordsAt, noSeats, seatsOf, acceptedOf, orderOf, tableAfter, scheduleAfter, ReadsTo}
 
 -- Item i of n words from p on.
-words-length : (s : List ℕ) (n p : ℕ) → length (wordsAt s n p) ≡ n
+pub words-length : (s : List ℕ) (n p : ℕ) → length (wordsAt s n p) ≡ n
 unfolding wordsAt
 words-length s zero p = refl
 words-length s (suc n) p = ap suc (words-length s n (p + 4))
@@ -181,7 +181,7 @@ module _ (s table schedule table′ schedule′ : List ℕ) (order : Order) (rea
   reading =
       reading-taken _ (reading-coded s (length table) (length schedule)) s (sym (ap (λ (o : Order). o .code) (reads .order-is)) ∙ none)
 
-  order-read : order ≡ acceptedOf s (planOf s)
+  pub order-read : order ≡ acceptedOf s (planOf s)
   unfolding orderOf
   order-read = reads .order-is ∙ ap (orderOf s) (reading .1)
 
@@ -190,6 +190,13 @@ module _ (s table schedule table′ schedule′ : List ℕ) (order : Order) (rea
   table-read =
       ap (take (planOf s .entries)) (reads .table-is ∙ ap (tableAfter s table) (reading .1))
       ∙ take-at (wordsAt s (planOf s .entries) 12) (drop (planOf s .entries) table) (planOf s .entries) (words-length s (planOf s .entries) 12)
+
+  pub schedule-read : take (planOf s .acts) schedule′ ≡ wordsAt s (planOf s .acts) (planOf s .schedule + 4)
+  unfolding scheduleAfter
+  schedule-read =
+      ap (take (planOf s .acts)) (reads .schedule-is ∙ ap (scheduleAfter s schedule) (reading .1))
+      ∙ take-at (wordsAt s (planOf s .acts) (planOf s .schedule + 4)) (drop (planOf s .acts) schedule) (planOf s .acts)
+      (words-length s (planOf s .acts) (planOf s .schedule + 4))
 
   pub file-passes : Passes edition s (planOf s)
   unfolding verdictOf
