@@ -1,6 +1,7 @@
 -- A run with its refusals: document 01, "Schedules" and "Codes and their order".
 -- Assumes nothing.
-use Prim.Native.Nat.{ℕ}
+use Prim.Native.Nat.{ℕ, _≤_}
+use mathlib.Core.Path.{_≡_}
 use mathlib.Core.Bool.{Bool, true, false}
 use mathlib.Core.List.{List, _++_}
 use lib.Dec.{ltb, eqb}
@@ -21,6 +22,12 @@ use Rattle.schedule.specs.Played.{begun, playedOf, marksOf}
 unfoldable pub refusalOf : ℕ → List ℕ → ℕ → ℕ
 refusalOf count schedule room =
     pick (ltb (edition .entries) (length schedule)) 12 (pick (allNamed count schedule) (pick (ltb room (length schedule)) 40 0) 13)
+
+-- What code 0 says of a schedule, for a group of so many looms and a buffer of that length.
+pub record Playable (count : ℕ) (schedule : List ℕ) (room : ℕ) : Type 0 where
+  pub short : length schedule ≤ edition .entries
+  pub named : allNamed count schedule ≡ true
+  pub room-enough : length schedule ≤ room
 
 -- "Running: opening, 12, 13, then 40 for the buffer."
 unfoldable pub codeOf : Opened → List ℕ → ℕ → ℕ
