@@ -382,9 +382,7 @@ fn play(
             let side = own.side;
             let number = numbers.of(side);
             match leads_to(table, states, memory, own) {
-                Moved::Refused => {
-                    acted = unmoved(ANSWERED);
-                }
+                Moved::Refused => acted = unmoved(ANSWERED),
                 Moved::To(state) => {
                     let turned = loom::turn(lead, number, state, memory, own);
                     let left = turned.shared;
