@@ -19,7 +19,7 @@ use Rattle.loom.specs.declared.Lead.{Lead}
 use Rattle.loom.specs.Sides.{other, sameSide}
 use Rattle.loom.specs.Looms.{restartedOf}
 use Rattle.group.specs.declared.Group.{Group}
-use Rattle.group.specs.Group.{emptyLoom, setOf, countOf, yieldingOf, leadingOf, leadOf, withLooms, noneOf, noLoom, restartedAt, restartedBelow, loomsRestarted}
+use Rattle.group.specs.Group.{emptyLoom, setOf, countOf, yieldingOf, leadingOf, leadOf, withLooms, noLoom, restartedAt, restartedBelow, loomsRestarted}
 
 -- Counting from loom i on is loom i and counting from the next on.
 pub count-from : (s : Side) (looms : List Loom) (n i : ℕ) → i < n → n ≤ length looms →
@@ -56,17 +56,15 @@ take-within n m xs short =
       | no past ↦ let is : min n m ≡ m = omega arith in ap (λ i. take i xs) is ∙ (take-all m xs short ∙ sym (take-all n xs (omega arith)))
     ]
 
--- A loom that there is among so many is below their count, and the count within the limit; and so in a group.
-pub has-one : (count k : ℕ) → noneOf count k ≡ false → (k < count) × (count ≤ edition .looms)
-has-one count k = go (ltb (edition .looms) count) (leb count k) refl refl
+-- A loom that a group has is below the group's count, and the count within the limit.
+pub has-loom : (g : Group) (k : ℕ) → noLoom g k ≡ false → (k < g .count) × (g .count ≤ edition .looms)
+has-loom g k = go (ltb (edition .looms) (g .count)) (leb (g .count) k) refl refl
   where
-    go : (s t : Bool) → ltb (edition .looms) count ≡ s → leb count k ≡ t → s || t ≡ false → (k < count) × (count ≤ edition .looms)
+    go : (s t : Bool) → ltb (edition .looms) (g .count) ≡ s → leb (g .count) k ≡ t → s || t ≡ false →
+        (k < g .count) × (g .count ≤ edition .looms)
     go true t e f none = absurd (subst T none tt)
     go false true e f none = absurd (subst T none tt)
-    go false false e f none = (leb-false count k f, ltb-false (edition .looms) count e)
-
-pub has-loom : (g : Group) (k : ℕ) → noLoom g k ≡ false → (k < g .count) × (g .count ≤ edition .looms)
-has-loom g k = has-one (g .count) k
+    go false false e f none = (leb-false (g .count) k f, ltb-false (edition .looms) (g .count) e)
 
 -- Restarting the looms below i, and then loom i, is restarting those below the next.
 pub restarted-next : (ls first : List Loom) (i : ℕ) → ls ≡ loomsRestarted first i →

@@ -2,7 +2,6 @@
 -- Assumes nothing.
 use Prim.Native.Nat.{ℕ, min}
 use mathlib.Core.Path.{_≡_, sym, _∙_}
-use mathlib.Core.Bool.{Bool}
 use mathlib.Core.List.{List}
 use lib.ListN.{length}
 use Rattle.cell.specs.Limits.{edition}
@@ -17,13 +16,12 @@ use Rattle.group.specs.declared.Sets.{Sets}
 use Rattle.group.specs.declared.Numbers.{Numbers}
 use Rattle.group.specs.declared.Group.{Group}
 use Rattle.group.specs.declared.Opened.{Opened}
-use Rattle.group.specs.declared.Permit.{Permit}
 use Rattle.group.specs.declared.Outcome.{Outcome}
 use Rattle.group.specs.declared.Stepped.{Stepped}
 use Rattle.group.specs.declared.Restarted.{Restarted}
-use Rattle.group.specs.Group.{setOf, numberOf, leadOf, noneOf, loomsRestarted}
+use Rattle.group.specs.Group.{setOf, numberOf, leadOf, loomsRestarted}
 use Rattle.group.specs.Open.{pieces, openOf}
-use Rattle.group.specs.Step.{mayStep, stepOnOf, stepOf, restartOf, restartAllOf}
+use Rattle.group.specs.Step.{stepOnOf, stepOf, restartOf, restartAllOf}
 
 pub sets-only-of : (self : Sets) (side : Side) (r s : ℕ) → r ≡ setOf self side → s ≡ setOf self side → r ≡ s
 sets-only-of self side r s p q = p ∙ sym q
@@ -40,18 +38,11 @@ pub only-open : (table : List ℕ) (states operations : ℕ) (certificate : Cert
     (r ≡ s) × (x ≡ y)
 only-open table states operations certificate a b area r s x y p q = (p .0 ∙ sym (q .0), p .1 ∙ sym (q .1))
 
-pub only-may-step : (table : List ℕ) (states operations : ℕ) (shared : Shared) (loom : Loom) (r s : Permit) →
-    r ≡ mayStep table states operations shared loom → s ≡ mayStep table states operations shared loom → r ≡ s
-only-may-step table states operations shared loom r s p q = p ∙ sym q
-
 pub only-step-on : (lead : Lead) (number : ℕ) (table : List ℕ) (states operations : ℕ) (shared : Shared) (loom : Loom) (r s : Outcome) →
     r ≡ stepOnOf (rulesOf lead) number table states operations shared loom →
     s ≡ stepOnOf (rulesOf lead) number table states operations shared loom →
     r ≡ s
 only-step-on lead number table states operations shared loom r s p q = p ∙ sym q
-
-pub only-no-loom : (count loom : ℕ) (r s : Bool) → r ≡ noneOf count loom → s ≡ noneOf count loom → r ≡ s
-only-no-loom count loom r s p q = p ∙ sym q
 
 pub only-step : (group : Group) (table : List ℕ) (states operations loom : ℕ) (r s : Stepped) →
     r ≡ stepOf table states operations group loom → s ≡ stepOf table states operations group loom → r ≡ s

@@ -122,17 +122,6 @@ denied-first true u e code m l x h = let it : code ≡ 32 = cc in ap (λ n. unmo
 denied-first false true e code m l x h = let it : code ≡ 31 = cc in ap (λ n. unmoved n m l) it
 denied-first false false e code m l x h = let never : _≡_ {A = ℕ} 0 1 = cc in absurd (omega arith)
 
--- What denies a step is a code, and not 0.
-denied-by : (t u : Bool) (e code : ℕ) → Denied code ≡ permitOf (cond t Refused (To e)) u → eqb code 0 ≡ false
-denied-by true u e code h = let it : code ≡ 32 = cc in ap (λ n. eqb n 0) it
-denied-by false true e code h = let it : code ≡ 31 = cc in ap (λ n. eqb n 0) it
-denied-by false false e code h = let never : _≡_ {A = ℕ} 0 1 = cc in absurd (omega arith)
-
-pub denied-code : (table : List ℕ) (states operations : ℕ) (m : Shared) (l : Loom) (code : ℕ) → Denied code ≡ mayStep table states operations m l →
-    eqb code 0 ≡ false
-denied-code table states operations m l code h =
-    denied-by (isUnfit table states operations (l .operation) (m .cell)) (hasAnswered (l .place)) (entryOf table states (l .operation) (m .cell)) code h
-
 -- A step that is granted, at the state s.
 granted-last : (t u : Bool) (e s : ℕ) (x y : Outcome) (f : ℕ → Outcome) →
     Granted s ≡ permitOf (cond t Refused (To e)) u → f s ≡ cond t x (cond u y (f e))
@@ -161,7 +150,7 @@ module _ (R : Rules) (v : ℕ) (table : List ℕ) (states operations : ℕ) (m :
       (sym (turned-of-next R v (entryOf table states (l .operation)) m l))
 
 -- A loom put back into its own slot changes nothing.
-pub put-back : (ls : List Loom) (k : ℕ) → set ls k (getD ls k emptyLoom) ≡ ls
+put-back : (ls : List Loom) (k : ℕ) → set ls k (getD ls k emptyLoom) ≡ ls
 put-back [] k = refl
 put-back (l ∷ ls) zero = refl
 put-back (l ∷ ls) (suc k) = ap (λ (r : List Loom). l ∷ r) (put-back ls k)

@@ -48,7 +48,7 @@ pub struct Group {
 }
 
 // Whether a step may be taken: the state that its operation leads to, or the code that refuses it.
-pub enum Permit {
+enum Permit {
     Granted(u8),
     Denied(u8),
 }
@@ -318,13 +318,7 @@ fn permitted(next: cell::Moved, place: Place) -> Permit
 }
 
 // Whether a loom may take a step on the shared memory: 32 where group and table don't fit, then 31 where the loom has answered.
-pub fn may_step(
-    table: &[u8],
-    states: usize,
-    operations: usize,
-    shared: Shared,
-    loom: Loom,
-) -> Permit
+fn may_step(table: &[u8], states: usize, operations: usize, shared: Shared, loom: Loom) -> Permit
     ensures { λ r. ⌜ r ≡ mayStep (now (table .entry)) states operations shared loom ⌝ }
 {
     let place = loom.place;
@@ -435,7 +429,7 @@ fn refused(code: u8, group: Group) -> Stepped
 }
 
 // Whether there is no loom of that number among so many, or these are more than 8.
-pub fn no_loom(count: usize, loom: usize) -> bool
+fn no_loom(count: usize, loom: usize) -> bool
     ensures { λ r. ⌜ r ≡ noneOf count loom ⌝ }
 {
     cell::LOOMS < count || count <= loom

@@ -3,19 +3,20 @@
 use Prim.Native.Nat.{ℕ, _+_, max}
 use mathlib.Core.Bool.{Bool, false, cond}
 use mathlib.Core.List.{List}
-use lib.Dec.{eqb, ltb}
-use lib.ListN.{set, getD}
-use Rattle.cell.specs.Limits.{edition}
+use lib.Dec.{eqb}
+use Rattle.cell.specs.declared.Moved.{Moved}
+use Rattle.cell.specs.declared.Moved.the-variants.{Refused}
+use Rattle.cell.specs.Table.{nextOf}
+use Rattle.recording.specs.declared.Seat.{Seat}
 use Rattle.recording.specs.Recording.{one}
 use Rattle.loom.specs.declared.Loom.{Loom}
 use Rattle.loom.specs.declared.Shared.{Shared}
 use Rattle.loom.specs.declared.Turned.{Turned}
-use Rattle.loom.specs.Looms.{restartedOf}
 use Rattle.loom.specs.Numbers.{saidNumber, saidApplied}
 use Rattle.group.specs.declared.Group.{Group}
-use Rattle.group.specs.Group.{emptyLoom, withShared, withLooms, noneOf, loomsRestarted}
-use Rattle.schedule.specs.declared.Act.{Act}
-use Rattle.schedule.specs.declared.Act.the-variants.{Step, Restart, RestartAll, Unknown}
+use Rattle.group.specs.Group.{withShared, withLooms}
+use Rattle.loom.specs.Turn.{hasAnswered}
+use Rattle.demands.specs.Fits.{WellFormed, Fits}
 use Rattle.schedule.specs.declared.Noted.{Noted}
 use Rattle.schedule.specs.declared.Tally.{Tally}
 use Rattle.schedule.specs.declared.Acted.{Acted}
@@ -34,22 +35,18 @@ abbrev pub actedBy : Noted → Group → Acted
 actedBy n g = record { mark = n .mark; applied = n .applied; steps = n .steps; group = g }
 
 -- The group that opened, with the looms and the memory that a run has come to.
-abbrev pub standing : Group → List Loom → Shared → Group
-standing g ls m = withLooms (withShared g m) ls
+abbrev pub comeTo : Group → List Loom → Shared → Group
+comeTo g ls m = withLooms (withShared g m) ls
 
--- The looms, so many of them, with loom k restarted; and all restarted. They are as they were where 30 refuses the restart.
-abbrev pub oneRestarted : List Loom → ℕ → ℕ → List Loom
-oneRestarted ls count k = cond (noneOf count k) ls (set ls k (restartedOf (getD ls k emptyLoom)))
+-- The group fits its table: it seats looms whose operations the table has, and its cell is in one of the table's states.
+pub record Fitting (table : List ℕ) (states operations : ℕ) (g : Group) : Type 0 where
+  pub looms : List Seat
+  pub good : WellFormed table states operations looms
+  pub fits : Fits states looms g
 
-abbrev pub allRestarted : List Loom → ℕ → List Loom
-allRestarted ls count = cond (ltb (edition .looms) count) ls (loomsRestarted ls count)
-
--- The looms after an act that is no step of one of them.
-abbrev pub restartedBy : List Loom → ℕ → Act → List Loom
-restartedBy ls count (Step k) = ls
-restartedBy ls count (Restart k) = oneRestarted ls count k
-restartedBy ls count RestartAll = allRestarted ls count
-restartedBy ls count Unknown = ls
+-- The state that a step of the loom l leads to on the memory m, refused where it has answered.
+abbrev pub leadsTo : List ℕ → ℕ → Shared → Loom → Moved
+leadsTo table states m l = cond (hasAnswered (l .place)) Refused (nextOf table states (l .operation) (m .cell))
 
 -- Nothing counted yet.
 abbrev pub noTally : Tally

@@ -1,7 +1,8 @@
 -- A run with its refusals: document 01, "Schedules" and "Codes and their order".
 -- Assumes nothing.
-use Prim.Native.Nat.{ℕ}
-use mathlib.Core.Bool.{cond}
+use Prim.Native.Nat.{ℕ, _≤_}
+use mathlib.Core.Path.{_≡_}
+use mathlib.Core.Bool.{true, cond}
 use mathlib.Core.List.{List, _++_}
 use lib.Dec.{ltb, eqb}
 use lib.ListN.{length, drop}
@@ -19,6 +20,12 @@ use Rattle.schedule.specs.Played.{begun, playedOf, marksOf}
 unfoldable pub refusalOf : ℕ → List ℕ → ℕ → ℕ
 refusalOf count schedule room =
     cond (ltb (edition .entries) (length schedule)) 12 (cond (allNamed count schedule) (cond (ltb room (length schedule)) 40 0) 13)
+
+-- What code 0 says of a schedule, for a group of so many looms and a buffer of that length.
+pub record Playable (count : ℕ) (schedule : List ℕ) (room : ℕ) : Type 0 where
+  pub short : length schedule ≤ edition .entries
+  pub named : allNamed count schedule ≡ true
+  pub room-enough : length schedule ≤ room
 
 -- "Running: opening, 12, 13, then 40 for the buffer."
 unfoldable pub codeOf : Opened → List ℕ → ℕ → ℕ

@@ -12,13 +12,7 @@ use Rattle.cell.specs.Limits.{edition}
 use Rattle.group.specs.declared.Opened.{Opened}
 use Rattle.schedule.specs.Acts.{allNamed}
 use Rattle.schedule.specs.Played.{begun, playedOf, marksOf}
-use Rattle.schedule.specs.Run.{refusalOf, codeOf, unrun, ranOf, markedOf}
-
--- What code 0 says of a schedule, for a group of so many looms and a buffer of that length.
-pub record Playable (count : ℕ) (schedule : List ℕ) (room : ℕ) : Type 0 where
-  pub short : length schedule ≤ edition .entries
-  pub named : allNamed count schedule ≡ true
-  pub room-enough : length schedule ≤ room
+use Rattle.schedule.specs.Run.{Playable, refusalOf, codeOf, unrun, ranOf, markedOf}
 
 module _ (count : ℕ) (schedule : List ℕ) (room : ℕ) where
   pub refusal-long : edition .entries < length schedule → 12 ≡ refusalOf count schedule room

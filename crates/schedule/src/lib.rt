@@ -7,16 +7,16 @@ ghost use lib.ListN.{length, drop};
 ghost use Rattle.cell.specs.Limits.{edition};
 ghost use Rattle.recording.specs.Recording.{one};
 ghost use Rattle.recording.specs.Check.{areaOf};
-ghost use Rattle.loom.specs.declared.Said.the-variants.{Nothing};
+ghost use Rattle.loom.specs.Turn.{hasAnswered};
 ghost use Rattle.group.specs.Open.{pieces, noGroup};
 ghost use Rattle.schedule.specs.Acts.{actOf, isNamed, allNamed};
-ghost use Rattle.schedule.specs.Played.{markOf, begun, playedOf, marksOf};
-ghost use Rattle.schedule.specs.InPlace.{unmovedNote, movedNote, standing, oneRestarted, allRestarted, restartedBy, noTally, tallied, ranBy};
-ghost use Rattle.schedule.specs.Run.{refusalOf, codeOf, unrun, ranOf, markedOf, runOf, bufferOf};
+ghost use Rattle.schedule.specs.Played.{begun, playedOf, marksOf};
+ghost use Rattle.schedule.specs.InPlace.{unmovedNote, movedNote, leadsTo, comeTo, Fitting, noTally, tallied, ranBy};
+ghost use Rattle.schedule.specs.Run.{Playable, refusalOf, codeOf, unrun, ranOf, markedOf, runOf, bufferOf};
+use cell::Moved;
 use group::Group;
 use group::Numbers;
 use group::Opened;
-use group::Permit;
 use group::Sets;
 use loom::Loom;
 use loom::Place;
@@ -30,6 +30,9 @@ const RESTART: u8 = 16;
 
 // The entry that is a restart of all.
 const ALL: u8 = 32;
+
+// The mark of a step of a loom that has answered.
+const ANSWERED: u8 = 3;
 
 // What an entry says is to be done.
 pub enum Act {
@@ -99,7 +102,7 @@ pub fn run(
     run_opened(opened, table, states, operations, schedule, marks)
 }
 
-// What a run comes to, once its group has opened or been refused.
+// What a run comes to, once its group has opened or been refused. A group that has opened fits its table.
 fn run_opened(
     opened: Opened,
     table: &[u8],
@@ -108,6 +111,7 @@ fn run_opened(
     schedule: &[u8],
     marks: &mut [u8],
 ) -> Ran
+    requires { ⌜ (opened .code ≡ 0 → Fitting (now table) states operations (opened .group)) ⌝ }
     ensures { λ r. ⌜ (r ≡ ranOf (now (table .entry)) states operations opened (now (schedule .entry)) (length (now (marks .entry))))
         × (now (marks .exit) ≡ markedOf (now (table .entry)) states operations opened (now (schedule .entry)) (now (marks .entry))) ⌝ }
 {
@@ -238,13 +242,6 @@ fn wide(entry: u8) -> usize
     entry as usize
 }
 
-// The mark of a refused step: 3 where it was refused with 31.
-fn mark_of(code: u8) -> u8
-    ensures { λ r. ⌜ r ≡ markOf code Nothing ⌝ }
-{
-    if code == 31 { 3 } else { 0 }
-}
-
 // What an act that moves no loom is counted by: its mark, and nothing else.
 fn unmoved(mark: u8) -> Noted
     ensures { λ r. ⌜ r ≡ unmovedNote mark ⌝ }
@@ -269,39 +266,30 @@ fn moved(turned: Turned) -> Noted
     }
 }
 
-// The looms with one of so many restarted; as they are where there is no such loom.
-fn one_restarted(looms: [Loom; 8], count: usize, at: usize) -> [Loom; 8]
-    ensures { λ r. ⌜ r ≡ oneRestarted looms count at ⌝ }
+// Whether a loom has answered.
+fn has_answered(place: Place) -> bool
+    ensures { λ r. ⌜ r ≡ hasAnswered place ⌝ }
 {
-    if group::no_loom(count, at) {
-        return looms;
+    match place {
+        Place::Begin => false,
+        Place::Posted => false,
+        Place::Looking => false,
+        Place::Ready => false,
+        Place::Applied => false,
+        Place::Bound(_) => false,
+        Place::Answered(_) => true,
     }
-    let mut out = looms;
-    let own = out[at];
-    out[at] = own.restarted();
-    out
 }
 
-// The looms, so many of them, all restarted; as they are where these are more than 8.
-fn all_restarted(looms: [Loom; 8], count: usize) -> [Loom; 8]
-    ensures { λ r. ⌜ r ≡ allRestarted looms count ⌝ }
+// The state that a loom's step leads to, refused where it has answered. In a run nothing else refuses a step: the group fits its table.
+fn leads_to(table: &[u8], states: usize, memory: Shared, own: Loom) -> Moved
+    ensures { λ r. ⌜ r ≡ leadsTo (now (table .entry)) states memory own ⌝ }
 {
-    if cell::LOOMS < count {
-        return looms;
+    let place = own.place;
+    if has_answered(place) {
+        return Moved::Refused;
     }
-    group::restarted_below(looms, count)
-}
-
-// The looms after an act that is no step of one of them.
-fn restarted(looms: [Loom; 8], count: usize, act: Act) -> [Loom; 8]
-    ensures { λ r. ⌜ r ≡ restartedBy looms count act ⌝ }
-{
-    match act {
-        Act::Step(_) => looms,
-        Act::Restart(loom) => one_restarted(looms, count, loom),
-        Act::RestartAll => all_restarted(looms, count),
-        Act::Unknown => looms,
-    }
+    cell::next(table, states, own.operation as usize, memory.cell as usize)
 }
 
 // 1 where the test holds, else 0.
@@ -349,7 +337,7 @@ fn no_tally() -> Tally
 
 // The run of a tally, and of the group with the looms and the memory that it has come to.
 fn finished(tally: Tally, opening: Group, looms: [Loom; 8], memory: Shared) -> Ran
-    ensures { λ r. ⌜ r ≡ ranBy tally (standing opening looms memory) ⌝ }
+    ensures { λ r. ⌜ r ≡ ranBy tally (comeTo opening looms memory) ⌝ }
 {
     let mut group = opening;
     group.looms = looms;
@@ -366,7 +354,7 @@ fn finished(tally: Tally, opening: Group, looms: [Loom; 8], memory: Shared) -> R
 }
 
 // Takes each entry in order, and writes its mark. The looms and the memory are changed in place; what the looms go by is worked out once,
-// since no act changes it.
+// since no act changes it. Each entry names an act and its loom, and the group fits its table, so that only 31 refuses a step.
 fn play(
     opening: Group,
     table: &[u8],
@@ -375,7 +363,7 @@ fn play(
     schedule: &[u8],
     marks: &mut [u8],
 ) -> Ran
-    requires { ⌜ (length (now schedule) ≤ edition .entries) × (length (now schedule) ≤ length (now marks)) ⌝ }
+    requires { ⌜ Playable (opening .count) (now schedule) (length (now marks)) × Fitting (now table) states operations opening ⌝ }
     ensures { λ r. ⌜ (r ≡ playedOf (now (table .entry)) states operations (begun opening) (now (schedule .entry)))
         × (now (marks .exit) ≡ marksOf (now (table .entry)) states operations opening (now (schedule .entry)) ++ drop (length (now (schedule .entry))) (now (marks .entry))) ⌝ }
 {
@@ -390,18 +378,13 @@ fn play(
         let entry = schedule[taken];
         let at = wide(entry);
         let mut acted = unmoved(0);
-        if group::no_loom(count, at) {
-            let new = restarted(looms, count, act_of(entry));
-            looms = new;
-        } else {
+        if at < count {
             let own = looms[at];
             let side = own.side;
             let number = numbers.of(side);
-            match group::may_step(table, states, operations, memory, own) {
-                Permit::Denied(code) => {
-                    acted = unmoved(mark_of(code));
-                }
-                Permit::Granted(state) => {
+            match leads_to(table, states, memory, own) {
+                Moved::Refused => acted = unmoved(ANSWERED),
+                Moved::To(state) => {
                     let turned = loom::turn(lead, number, state, memory, own);
                     let left = turned.shared;
                     let stepped = turned.loom;
@@ -410,10 +393,16 @@ fn play(
                     acted = moved(turned);
                 }
             }
+        } else if entry == ALL {
+            let new = group::restarted_below(looms, count);
+            looms = new;
+        } else {
+            let back = wide(entry - RESTART);
+            let own = looms[back];
+            looms[back] = own.restarted();
         }
         marks[taken] = acted.mark;
-        let new = tally.with_noted(acted);
-        tally = new;
+        tally = tally.with_noted(acted);
         taken += 1;
     }
     finished(tally, opening, looms, memory)

@@ -4,6 +4,8 @@ use mathlib.Core.Path.{ap, _∙_}
 use denote.Ref.{now}
 use lib.ListN.{length}
 use borrow.Author.Needs.{needs}
+use Rattle.group.specs.Open.{pieces}
+use Rattle.schedule.specs.InPlaceLaws.{opened-fitting}
 use Rattle.schedule.specs.Run.{ranOf, markedOf}
 use Rattle.schedule.proofs.run.Statement.{statement}
 use Rattle.schedule.proofs.run.Tie as tie
@@ -12,7 +14,10 @@ open-requires : tie.Need-open-requires
 open-requires c κs = search needs
 
 run-opened-requires : tie.Need-run-opened-requires
-run-opened-requires c κs = search needs
+run-opened-requires c κs =
+    let a = c .before .before .before .before .before .before .before .before .before .args in
+    opened-fitting (now (a .table)) (a .states) (a .operations) (a .certificate) (pieces (a .a) (a .b)) (length (now (a .area))) _
+    (c .before .before .before .«open» .ensures .0)
 
 same-length : tie.Need-same-length
 same-length c = search needs

@@ -33,8 +33,8 @@ accepted c = sym (c .before .code-of .ensures) ∙ c .if1 .left
 
 play-requires : tie.Need-play-requires
 play-requires c κs =
-    let says = code-says _ _ _ (accepted (c .before .before)) .1 in
-    (says .short, says .room-enough)
+    let says = code-says _ _ _ (accepted (c .before .before)) in
+    (says .1, c .before .before .before .before .before .before .before .pre (says .0))
 
 same-length : tie.Need-same-length
 same-length c = search needs
