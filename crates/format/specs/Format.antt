@@ -12,6 +12,7 @@ use Rattle.xdr.specs.declared.Field.{Field}
 use Rattle.xdr.specs.Field.{judged, wordAt, within, fieldAt, andThen, run, endAt}
 use Rattle.xdr.specs.Opaque.{opaqueAt}
 use Rattle.format.specs.declared.Plan.{Plan}
+use Rattle.format.specs.declared.Judgement.{Judgement}
 use Rattle.format.specs.Layout.{planOf}
 use Rattle.format.specs.declared.Items.{Items}
 use Rattle.format.specs.declared.Items.the-variants.{Entries, Looms, Acts}
@@ -101,3 +102,7 @@ judgedBy L s P = andThen (headOf L s) (andThen (certificateOf L s P) (andThen (p
 -- The verdict on a file: its first refusal.
 unfoldable pub verdictOf : Limits → List ℕ → Field
 verdictOf L s = judgedBy L s (planOf s)
+
+-- The verdict with the plan that it went by.
+abbrev pub judgementOf : Limits → List ℕ → Judgement
+judgementOf L s = record { verdict = verdictOf L s; plan = planOf s }

@@ -4,13 +4,9 @@ use Prim.Native.Nat.{ℕ}
 use mathlib.Core.Path.{_≡_, sym, _∙_}
 use mathlib.Core.List.{List}
 use Rattle.cell.specs.Limits.{edition}
-use Rattle.xdr.specs.declared.Field.{Field}
-use Rattle.format.specs.declared.Plan.{Plan}
-use Rattle.format.specs.Layout.{Small, planOf}
-use Rattle.format.specs.Format.{verdictOf}
+use Rattle.format.specs.declared.Judgement.{Judgement}
+use Rattle.format.specs.Layout.{Small}
+use Rattle.format.specs.Format.{judgementOf}
 
-pub only-planned : (s : List ℕ) (r r′ : Plan) → (r ≡ planOf s) × Small r → (r′ ≡ planOf s) × Small r′ → r ≡ r′
-only-planned s r r′ h k = h .0 ∙ sym (k .0)
-
-pub only-judge : (s : List ℕ) (r r′ : Field) → r ≡ verdictOf edition s → r′ ≡ verdictOf edition s → r ≡ r′
-only-judge s r r′ h k = h ∙ sym k
+pub only-judge : (s : List ℕ) (r r′ : Judgement) → (r ≡ judgementOf edition s) × Small (r .plan) → (r′ ≡ judgementOf edition s) × Small (r′ .plan) → r ≡ r′
+only-judge s r r′ h k = h .0 ∙ sym (k .0)

@@ -7,7 +7,7 @@ ghost use Rattle.cell.specs.Limits.{edition};
 ghost use Rattle.recording.specs.Recording.{one, sideCount};
 ghost use Rattle.xdr.specs.Field.{fieldAt};
 ghost use Rattle.format.specs.Layout.{Small, planOf};
-ghost use Rattle.format.specs.Format.{itemAt, widthOf, namesAct, runOf, seatsAt, sidesAt, headOf, certificateOf, piecesOf, labelAt, scheduleOf, judgedBy, verdictOf};
+ghost use Rattle.format.specs.Format.{itemAt, widthOf, namesAct, runOf, seatsAt, sidesAt, headOf, certificateOf, piecesOf, labelAt, scheduleOf, judgedBy, judgementOf};
 use xdr::Field;
 
 // Where the parts of a file begin and how long they are, as its words say.
@@ -32,8 +32,14 @@ pub enum Items {
     Acts(usize),
 }
 
+// What judging a file comes to: its verdict and its plan.
+pub struct Judgement {
+    pub verdict: Field,
+    pub plan: Plan,
+}
+
 // The parts of a file, each where the words before it put it. A file that ends early has 0 for the words it lacks.
-pub fn planned(file: &[u8]) -> Plan
+fn planned(file: &[u8]) -> Plan
     ensures { λ r. ⌜ (r ≡ planOf (now (file .entry))) × Small r ⌝ }
 {
     let entries = xdr::word_at(file, 8);
@@ -323,9 +329,11 @@ fn parts(file: &[u8], plan: Plan) -> Field
     schedule(file, plan)
 }
 
-// A file's first refusal, in file order; for a file that is taken, where it ends.
-pub fn judge(file: &[u8]) -> Field
-    ensures { λ r. ⌜ r ≡ verdictOf edition (now (file .entry)) ⌝ }
+// A file's first refusal, in file order, or for a file that is taken where it ends; and its plan, so that nobody works it out again.
+pub fn judge(file: &[u8]) -> Judgement
+    ensures { λ r. ⌜ (r ≡ judgementOf edition (now (file .entry))) × Small (r .plan) ⌝ }
 {
-    parts(file, planned(file))
+    let plan = planned(file);
+    let verdict = parts(file, plan);
+    Judgement { verdict, plan }
 }

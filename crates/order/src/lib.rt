@@ -167,13 +167,15 @@ pub fn read(file: &[u8], table: &mut [u8], schedule: &mut [u8]) -> Order
     if schedule.len() < cell::ENTRIES {
         return refused(40, 0);
     }
-    match format::judge(file) {
+    let judged = format::judge(file);
+    let verdict = judged.verdict;
+    match verdict {
         Field::Is(_) => {}
         Field::Not(code, place) => {
             return refused(code, place);
         }
     }
-    let plan = format::planned(file);
+    let plan = judged.plan;
     fill(file, 12, plan.entries, table);
     fill(file, plan.schedule + 4, plan.acts, schedule);
     accepted(file, plan)

@@ -4,6 +4,7 @@ use borrow.Author.Needs.{needs}
 use mathlib.Core.Path.{_∙_, ap}
 use denote.Ref.{now}
 use Rattle.cell.specs.Limits.{edition}
+use Rattle.xdr.specs.declared.Field.{Field}
 use Rattle.format.specs.declared.Plan.{Plan}
 use Rattle.format.specs.Format.{judgedBy, verdictOf}
 use Rattle.format.proofs.judge.Statement.{statement}
@@ -18,7 +19,12 @@ parts-requires c κs = search needs
 returns : tie.Need-returns
 unfolding verdictOf
 returns c =
-    c .parts .ensures ∙ ap (λ (P : Plan). judgedBy edition (now (c .before .before .before .args .file)) P) (c .before .planned .ensures .0)
+    let file = now (c .before .before .before .args .file) in
+    let planned = c .before .planned .ensures in (
+      ap (λ (v : Field). record { verdict = v; plan = c .before .planned .result }) (c .parts .ensures)
+          ∙ ap (λ (P : Plan). record { verdict = judgedBy edition file P; plan = P }) (planned .0),
+      planned .1,
+    )
 
 pub judge-spec : {M : Type 1} → statement M
 judge-spec = tie.close (tie.spec planned-requires parts-requires returns)

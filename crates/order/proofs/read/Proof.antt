@@ -2,7 +2,12 @@
 -- Assumes nothing.
 use borrow.Author.Needs.{needs}
 use native.Mathlib.Omega.{arith}
-use mathlib.Core.Path.{sym, _∙_}
+use mathlib.Core.Path.{_≡_, sym, ap, _∙_}
+use denote.Ref.{now}
+use Rattle.cell.specs.Limits.{edition}
+use Rattle.format.specs.declared.Judgement.{Judgement}
+use Rattle.format.specs.Format.{verdictOf}
+use Rattle.format.specs.Layout.{planOf}
 use Rattle.order.specs.OrderLaws.{short-table, short-schedule, rooms-suffice, refused-reads}
 use Rattle.order.specs.ReadLaws.{file-bounds, reads}
 use Rattle.order.proofs.read.Statement.{statement}
@@ -25,11 +30,18 @@ returns-2 c =
 judge-requires : tie.Need-judge-requires
 judge-requires c κs = search needs
 
+-- the plan and the verdict are the file's
+plan-is : (c : tie.After-judge) → c .judge .result .plan ≡ planOf (now (c .before .before .before .before .before .before .args .file))
+plan-is c = ap (λ (j : Judgement). j .plan) (c .judge .ensures .0)
+
+verdict-is : (c : tie.After-judge) → verdictOf edition (now (c .before .before .before .before .before .before .args .file)) ≡ c .judge .result .verdict
+verdict-is c = sym (ap (λ (j : Judgement). j .verdict) (c .judge .ensures .0))
+
 enum-told : tie.Need-enum-told
 enum-told c = search needs
 
-enum-known-code : tie.Need-enum-known-code
-enum-known-code c = search needs
+enum-known-verdict : tie.Need-enum-known-verdict
+enum-known-verdict c = search needs
 
 refused-requires-3 : tie.Need-refused-requires-3
 refused-requires-3 c κs = search needs
@@ -37,14 +49,13 @@ refused-requires-3 c κs = search needs
 returns-3 : tie.Need-returns-3
 returns-3 c =
     rw (c .refused3 .ensures)
-    (refused-reads _ _ _ _ _ _ (rooms-suffice _ _ _ _ (c .before .before .before .before .before .before .if1 .left) (c .before .before .before .before .before .if2 .left) ∙ (sym (c .before .before .before .before .judge .ensures) ∙ c .before .before .code .given .1)))
-
-planned-requires : tie.Need-planned-requires
-planned-requires c κs = search needs
+    (refused-reads _ _ _ _ _ _
+    (rooms-suffice _ _ _ _ (c .before .before .before .before .before .before .if1 .left) (c .before .before .before .before .before .if2 .left) ∙ (verdict-is (c .before .before .before .before) ∙ c .before .before .verdict .given .1)))
 
 fill-requires : tie.Need-fill-requires
 fill-requires c κs =
-    let B = file-bounds _ _ _ (c .before .planned .ensures .0) (sym (c .before .before .before .before .judge .ensures) ∙ c .before .before .enum-told .given .1) in
+    let judged = c .before .before .before .before in
+    let B = file-bounds _ _ _ (plan-is judged) (verdict-is judged ∙ c .before .before .enum-told .given .1) in
     (omega (arith, B .size), omega (arith, B .size))
 
 add-fill : tie.Need-add-fill
@@ -52,12 +63,14 @@ add-fill c = search needs
 
 fill-requires-2 : tie.Need-fill-requires-2
 fill-requires-2 c κs =
-    let B = file-bounds _ _ _ (c .before .before .before .before .before .before .planned .ensures .0) (sym (c .before .before .before .before .before .before .before .before .before .judge .ensures) ∙ c .before .before .before .before .before .before .before .enum-told .given .1) in
-    (omega (arith, B .count, c .before .before .before .before .before .before .before .before .before .before .if2 .left), omega (arith, B .count, c .before .before .before .before .before .before .planned .ensures .1 .schedule))
+    let judged = c .before .before .before .before .before .before .before .before .before in
+    let B = file-bounds _ _ _ (plan-is judged) (verdict-is judged ∙ c .before .before .before .before .before .before .before .enum-told .given .1) in
+    (omega (arith, B .count, c .before .before .before .before .before .before .before .before .before .before .if2 .left), omega (arith, B .count, judged .judge .ensures .1 .schedule))
 
 accepted-requires : tie.Need-accepted-requires
 accepted-requires c κs =
-    (c .before .before .before .before .before .before .before .before .before .planned .ensures .1, file-bounds _ _ _ (c .before .before .before .before .before .before .before .before .before .planned .ensures .0) (sym (c .before .before .before .before .before .before .before .before .before .before .before .before .judge .ensures) ∙ c .before .before .before .before .before .before .before .before .before .before .enum-told .given .1) .looms)
+    let judged = c .before .before .before .before .before .before .before .before .before .before .before .before in
+    (judged .judge .ensures .1, file-bounds _ _ _ (plan-is judged) (verdict-is judged ∙ c .before .before .before .before .before .before .before .before .before .before .enum-told .given .1) .looms)
 
 same-length : tie.Need-same-length
 same-length c = search needs
@@ -67,8 +80,9 @@ same-length-2 c = search needs
 
 returns-4 : tie.Need-returns-4
 returns-4 c =
-    reads _ _ _ (c .before .before .before .before .before .before .before .before .before .before .planned .ensures .0) (sym (c .before .before .before .before .before .before .before .before .before .before .before .before .before .judge .ensures) ∙ c .before .before .before .before .before .before .before .before .before .before .before .enum-told .given .1) _ _ _ _ _ (c .before .before .before .before .before .before .before .before .before .before .before .before .before .before .before .if1 .left) (c .before .before .before .before .before .before .before .before .before .before .before .before .before .before .if2 .left)
-    (c .accepted .ensures) (c .before .before .before .before .before .before .before .before .fill .ensures) (c .before .before .before .fill2 .ensures)
+    let judged = c .before .before .before .before .before .before .before .before .before .before .before .before .before in
+    reads _ _ _ (plan-is judged) (verdict-is judged ∙ c .before .before .before .before .before .before .before .before .before .before .before .enum-told .given .1) _ _ _ _ _
+    (judged .before .before .if1 .left) (judged .before .if2 .left) (c .accepted .ensures) (c .before .before .before .before .before .before .before .before .fill .ensures) (c .before .before .before .fill2 .ensures)
 
 pub read-spec : {M : Type 1} → statement M
 read-spec =
@@ -80,10 +94,9 @@ read-spec =
     returns-2
     judge-requires
     enum-told
-    enum-known-code
+    enum-known-verdict
     refused-requires-3
     returns-3
-    planned-requires
     fill-requires
     add-fill
     fill-requires-2
