@@ -27,11 +27,11 @@ use Rattle.group.specs.Group.{loomAt, numberOf, groupRules}
 use Rattle.group.specs.Step.{stepOf}
 use Rattle.demands.specs.Acts.{Act, loomSteps, loomRestarts, allRestart, untouched, historyAfter, groupAfter, eventsAfter}
 use Rattle.demands.specs.Fits.{Fits}
-use Rattle.demands.specs.Pictured.{numbered, allNumbered, Pictured}
+use Rattle.demands.specs.Pictured.{Pictured}
 use Rattle.demands.specs.PicturedLaws.{rules-of-seats, Along, along-always}
 use Rattle.demands.specs.RendersLaws.{renders-of-sets}
 use Rattle.demands.specs.NewlyOpened.{NewlyOpened}
-use Rattle.demands.specs.Processes.{settingIn, SameState}
+use Rattle.demands.specs.Processes.{settingIn, numbered, allNumbered, SameState}
 use Rattle.demands.specs.Steps.{stepsOf, Unrestarted, HasAnswered}
 use Rattle.demands.specs.StepsLaws.{steps-numbered, unrestarted-numbered, AllWithin, within-always, result-at-most-six}
 

@@ -28,8 +28,7 @@ use Rattle.group.specs.Group.{emptyLoom, numberOf}
 use Rattle.group.specs.Open.{loomOf, slotsOf, freshGroup, unopened, opened, setsFrom, openedBy, openOf}
 use Rattle.group.specs.OpenLaws.{slots-length, slot-of-seat}
 use Rattle.demands.specs.Fits.{Seated, WellFormed}
-use Rattle.demands.specs.RendersLaws.{AreSets}
-use Rattle.demands.specs.NewlyOpened.{NewlyOpened}
+use Rattle.demands.specs.NewlyOpened.{AreSets, NewlyOpened}
 
 -- What code 0 says of an opening: the check accepted, neither number is 0, and the group is as it opens.
 record Opens (j : Judged) (c : Certificate) (numbers : Numbers) : Type 0 where
