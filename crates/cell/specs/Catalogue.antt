@@ -50,10 +50,6 @@ each f (suc k) = each f k ++ (f k ∷ [])
 unfoldable pub tableOf : ℕ → List ℕ
 tableOf n = each (afterZero n) (2 * n) ++ each (afterOne n) (2 * n)
 
--- The entry at a place of that table, as the code finds it.
-unfoldable pub entryAt : ℕ → ℕ → ℕ
-entryAt n i = cond (ltb i (2 * n)) (afterZero n i) (afterOne n (i - 2 * n))
-
 -- "Catalogue: 41, then 40." 41: no such catalogue cell; n is from 2 to the most looms. 40: lent room too short.
 unfoldable pub catalogueCode : ℕ → ℕ → ℕ
 catalogueCode n room = cond (outsideOf 2 (edition .looms) n) 41 (cond (ltb room (4 * n)) 40 0)

@@ -16,7 +16,7 @@ use lib.Seq.{getD-append-seam, getD-append-add}
 use Rattle.cell.specs.Limits.{edition}
 use Rattle.cell.specs.Table.{entryOf, outsideOf}
 use Rattle.cell.specs.TableLaws.{HasForm, not-outside}
-use Rattle.cell.specs.Catalogue.{wonA, wonB, markOf, afterZero, afterOne, each, tableOf, entryAt, catalogueCode, writtenUnder, catalogueRoom, Catalogued}
+use Rattle.cell.specs.Catalogue.{wonA, wonB, markOf, afterZero, afterOne, each, tableOf, catalogueCode, writtenUnder, catalogueRoom, Catalogued}
 
 le-of-not-lt : (q n : ℕ) → ¬ (q < n) → n ≤ q
 le-of-not-lt q n h = omega arith
@@ -129,6 +129,10 @@ table-of-one n q h =
     ap (λ (x : ℕ). getD (each (afterZero n) (2 * n) ++ each (afterOne n) (2 * n)) (x + q) 0) (sym (length-each (afterZero n) (2 * n)))
     ∙ getD-append-add (each (afterZero n) (2 * n)) (each (afterOne n) (2 * n)) q 0
     ∙ getD-each (afterOne n) (2 * n) q h
+
+-- The entry at a place of the table, as the code finds it.
+unfoldable pub entryAt : ℕ → ℕ → ℕ
+entryAt n i = cond (ltb i (2 * n)) (afterZero n i) (afterOne n (i - 2 * n))
 
 pub table-entry : (n i : ℕ) → i < 4 * n → getD (tableOf n) i 0 ≡ entryAt n i
 unfolding entryAt
