@@ -11,8 +11,8 @@ use lib.Dec.{ltb, eqb}
 use lib.ListN.{length}
 use borrow.Author.Tests.{ltb-true, eqb-true}
 use Rattle.cell.specs.Limits.{Limits}
-use Rattle.xdr.specs.Field.{wordAt, within, fieldAt, endAt}
-use Rattle.xdr.specs.FieldLaws.{Passed, then-both, then-passes, within-taken, field-taken, run-taken, end-taken}
+use Rattle.xdr.specs.Field.{wordAt, within, fieldAt, Passed, endAt}
+use Rattle.xdr.specs.FieldLaws.{then-both, then-passes, within-taken, field-taken, run-taken, end-taken}
 use Rattle.format.specs.declared.Plan.{Plan}
 use Rattle.format.specs.declared.Items.the-variants.{Entries, Looms, Acts}
 use Rattle.format.specs.Layout.{planOf}
