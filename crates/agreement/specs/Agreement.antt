@@ -13,7 +13,7 @@ use Rattle.agreement.specs.Fitted.{Fitted}
 use Rattle.agreement.specs.Phases.{Phase, fresh, even, first, Phased, Holds}
 use Rattle.agreement.specs.PhasesLaws.{holds-opening, holds-after}
 use Rattle.agreement.specs.LogLaws.{had-of-came, settled-by}
-use Rattle.agreement.specs.Told.{AllTold, told-of-had, told-after}
+use Rattle.agreement.specs.ToldLaws.{AllTold, told-of-had, told-after}
 
 module _ {next : ℕ → ℕ → ℕ} {looms : List Seat} {start : ℕ} {R : Rules} (given : Fitted next looms start R) where
   -- The winner. Whatever the acts and whatever numbers other than 0 the looms post, all answers name one side, with a number that a

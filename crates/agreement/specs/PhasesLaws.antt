@@ -22,8 +22,8 @@ use Rattle.loom.specs.SidesLaws.{same-or-other, other-other, same-side, same-as
 use Rattle.agreement.specs.Machine.{Filled, Event, posted, applied, answered, Act, step, restart, restartAll, EachStep, State, sideOf, changedAt, withPost, withSaid, turned, replaced, steppedFrom, stepped, acted, after, opening}
 use Rattle.agreement.specs.Agreed.{NoneApplied}
 use Rattle.agreement.specs.Fitted.{Fitted}
-use Rattle.agreement.specs.Orders.{order-of-one, order-of-one-more, reached-by-one-more, not-in-one-more}
-use Rattle.agreement.specs.Teams.{side-number, start-or-alone, every-loom-appears, decides, one-yields, leads-without}
+use Rattle.agreement.specs.OrdersLaws.{order-of-one, order-of-one-more, reached-by-one-more, not-in-one-more}
+use Rattle.agreement.specs.TeamsLaws.{side-number, start-or-alone, every-loom-appears, decides, one-yields, leads-without}
 use Rattle.agreement.specs.Phases.{Phase, fresh, even, first, AllFit, Honest, Wins, MayApply, MayLook, MayRead, Stands, Begun, First, Phased, Holds}
 use Rattle.agreement.specs.LogLaws.{had-nothing, had-latest, had-still, none-applied-by-post, still-applied, filled-still, honest-post, honest-application, changed-all}
 

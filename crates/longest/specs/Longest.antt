@@ -11,7 +11,7 @@ use Rattle.xdr.specs.Opaque.{padOf, padded}
 use Rattle.xdr.specs.OpaqueLaws.{padded-grows}
 use Rattle.format.specs.Layout.{planOf}
 use Rattle.format.specs.Format.{verdictOf}
-use Rattle.format.specs.Accepted.{verdict-bounds}
+use Rattle.format.specs.AcceptedLaws.{verdict-bounds}
 
 -- The most bytes that the parts of a file can have.
 abbrev pub longestOf : Limits → ℕ

@@ -19,7 +19,7 @@ use Rattle.format.specs.declared.Items.the-variants.{Entries, Acts}
 use Rattle.format.specs.Layout.{planOf}
 use Rattle.format.specs.LayoutLaws.{plan-is}
 use Rattle.format.specs.Format.{namesAct, itemAt, runOf, seatsAt, sidesAt, labelAt, verdictOf}
-use Rattle.format.specs.Accepted.{Passes, file-takes}
+use Rattle.format.specs.AcceptedLaws.{Passes, file-takes}
 
 -- The words before the table, those after it to the schedule's entries.
 abbrev head : List ℕ

@@ -16,7 +16,7 @@ use Rattle.loom.specs.SidesLaws.{side-of-number, same-or-other, number-of-side}
 use Rattle.loom.specs.Turn.{Rules, decided}
 use Rattle.agreement.specs.Machine.{sideOf}
 use Rattle.agreement.specs.Fitted.{Fitted}
-use Rattle.agreement.specs.Orders.{order-of-one, order-of-one-more, reached-by-one-more, loom-of-order, lone}
+use Rattle.agreement.specs.OrdersLaws.{order-of-one, order-of-one-more, reached-by-one-more, loom-of-order, lone}
 
 module _ {next : ℕ → ℕ → ℕ} {looms : List Seat} {start : ℕ} {R : Rules} (given : Fitted next looms start R) where
   -- Loom k's number for its side.
