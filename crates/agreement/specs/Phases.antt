@@ -10,7 +10,7 @@ use mathlib.Core.List.{List, [], _∷_}
 use lib.Dec.{T}
 use lib.ListN.{length}
 use Rattle.recording.specs.declared.Seat.{Seat}
-use Rattle.recording.specs.Recording.{times, Order, reached}
+use Rattle.recording.specs.Recording.{times, Sequence, reached}
 use Rattle.loom.specs.declared.Side.{Side}
 use Rattle.loom.specs.declared.Place.{Place}
 use Rattle.loom.specs.declared.Place.the-variants.{Begin, Posted, Looking, Ready, Applied, Bound, Answered}
@@ -106,7 +106,7 @@ module _ (next : ℕ → ℕ → ℕ) (looms : List Seat) (start : ℕ) (R : Rul
   -- First: the cell is where the looms `us` have taken it, a loom of X first.
   pub record First (X : Side) (us : List ℕ) (m : Shared) (log : List Event) : Type 0 where
     pub reaches : m .cell ≡ reached next looms start us
-    pub order : Order looms (sideNumber X) us
+    pub order : Sequence looms (sideNumber X) us
     pub led : Filled (register m X)
     pub some-applied : NoneApplied log → ⊥
     pub fit : AllFit X log

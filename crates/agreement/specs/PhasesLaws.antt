@@ -10,7 +10,7 @@ use lib.Dec.{eqb, ltb}
 use lib.ListN.{length}
 use borrow.Author.Tests.{eqb-true, eqb-false, eq-eqb, ne-eqb, ltb-true}
 use Rattle.recording.specs.declared.Seat.{Seat}
-use Rattle.recording.specs.Recording.{operationAt, sideCount, times, Order, reached, InSet}
+use Rattle.recording.specs.Recording.{operationAt, sideCount, times, Sequence, reached, InSet}
 use Rattle.loom.specs.declared.Side.{Side}
 use Rattle.loom.specs.declared.Side.the-variants.{A, B}
 use Rattle.loom.specs.declared.Place.{Place}
@@ -206,7 +206,7 @@ module _ {next : ℕ → ℕ → ℕ} {looms : List Seat} {start : ℕ} {R : Rul
           holds-bound S k (other (sideOf looms k)) known stands begins (λ none. omega (arith, rw leads at e)) leads
 
   -- Where looms have taken the cell back to the start, a loom of the leading side was first among them.
-  pub leading-first : (X : Side) (us : List ℕ) → Order looms (sideNumber X) us → reached next looms start us ≡ start → X ≡ R .leading
+  pub leading-first : (X : Side) (us : List ℕ) → Sequence looms (sideNumber X) us → reached next looms start us ≡ start → X ≡ R .leading
   leading-first X us order back = by-side (same-or-other X (R .leading))
     where
       by-side : (X ≡ R .leading) ⊎ (X ≡ other (R .leading)) → X ≡ R .leading
@@ -214,7 +214,7 @@ module _ {next : ℕ → ℕ → ℕ} {looms : List Seat} {start : ℕ} {R : Rul
       by-side (inr e) = absurd (given .renders .the-yielding (us, (rw e at order), back))
 
   -- Then the yielding side has one loom.
-  pub alone-at-return : (us : List ℕ) → Order looms (sideNumber (R .leading)) us → reached next looms start us ≡ start → R .yieldsAlone ≡ true
+  pub alone-at-return : (us : List ℕ) → Sequence looms (sideNumber (R .leading)) us → reached next looms start us ≡ start → R .yieldsAlone ≡ true
   alone-at-return us order back = by-clause (start-or-alone given (R .leading))
     where
       by-clause : (InSet next looms start (sideNumber (R .leading)) start → ⊥) ⊎ (sideCount (sideNumber (other (R .leading))) looms ≡ 1) →
@@ -223,7 +223,7 @@ module _ {next : ℕ → ℕ → ℕ} {looms : List Seat} {start : ℕ} {R : Rul
       by-clause (inr count) = given .renders .the-count .1 count
 
   -- And no loom of the yielding side is ready: by Lemma 7 they are all among those that applied.
-  pub stands-at-return : (m : Shared) (us : List ℕ) → Order looms (sideNumber (R .leading)) us → reached next looms start us ≡ start →
+  pub stands-at-return : (m : Shared) (us : List ℕ) → Sequence looms (sideNumber (R .leading)) us → reached next looms start us ≡ start →
       (j : ℕ) (p : Place) → Stands next looms start R (first (R .leading) us) j p → Begun next looms start R m j p → Stands next looms start R even j p
   stands-at-return m us order back j Begin old begin = tt
   stands-at-return m us order back j Posted old begin = tt
@@ -279,7 +279,7 @@ module _ {next : ℕ → ℕ → ℕ} {looms : List Seat} {start : ℕ} {R : Rul
 
   -- An application keeps the invariant, from whatever phase: the looms `us` and then k have taken the cell to where it is.
   pub holds-one-more : (S : State) (k v : ℕ) (known : Holds next looms start R S) → Begun next looms start R (S .shared) k Ready → (X : Side) (us : List ℕ) →
-      S .shared .cell ≡ reached next looms start us → Order looms (sideNumber X) (us ++ (k ∷ [])) → Filled (register (S .shared) X) →
+      S .shared .cell ≡ reached next looms start us → Sequence looms (sideNumber X) (us ++ (k ∷ [])) → Filled (register (S .shared) X) →
       AllFit X (S .log) → (NoneApplied (S .log) → sideOf looms k ≡ X) →
       ((j : ℕ) → MayLook next looms start R (known .phase) j → times j us ≡ 0) → ((j : ℕ) → MayApply next looms start R (known .phase) j → times j us ≡ 0) →
       ((x : Side) → Wins next looms start R (known .phase) x → x ≡ X) → Holds next looms start R (steppedFrom next looms R k v Ready S)

@@ -53,7 +53,7 @@ wordsTo table states looms start X m = filled (entryOf table states) looms state
 abbrev pub wordBy : List ℕ → ℕ → List Seat → ℕ → ℕ → List ℕ → ℕ → ℕ → ℕ
 wordBy table states looms start X earlier m k = wordFrom (entryOf table states) looms states start X earlier m k
 
--- What a loom adds as the first of an order, and as the last of one: `lone` is the set of that loom alone.
+-- What a loom adds as the first of a sequence, and as the last of one: `lone` is the set of that loom alone.
 abbrev pub firstIn : List ℕ → ℕ → Seat → ℕ → ℕ → ℕ
 firstIn table states l X start = cond (eqb (l .side) X) (2 ^ entryOf table states (l .operation) start) 0
 
