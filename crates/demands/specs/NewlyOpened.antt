@@ -14,7 +14,7 @@ use Rattle.recording.specs.Check.{loomsOf}
 use Rattle.loom.specs.declared.Side.{Side}
 use Rattle.loom.specs.declared.Place.the-variants.{Begin}
 use Rattle.loom.specs.Sides.{sideNumber}
-use Rattle.agreement.specs.Machine.{Filled}
+use Rattle.agreement.specs.Machine.{NotZero}
 use Rattle.group.specs.declared.Numbers.{Numbers}
 use Rattle.group.specs.declared.Sets.{Sets}
 use Rattle.group.specs.declared.Group.{Group}
@@ -30,7 +30,7 @@ AreSets next looms start sets = (s : Side) (q : ℕ) → (bit (setOf sets s) q �
 pub record NewlyOpened (table : List ℕ) (states operations : ℕ) (c : Certificate) (numbers : Numbers) (g : Group) : Type 0 where
   pub good : WellFormed table states operations (loomsOf c)
   pub recording : Recording (entryOf table states) (loomsOf c) (c .start)
-  pub filled : (s : Side) → Filled (numberOf numbers s)
+  pub not-zero : (s : Side) → NotZero (numberOf numbers s)
   pub seated : Seated (loomsOf c) g
   pub sets : AreSets (entryOf table states) (loomsOf c) (c .start) (g .sets)
   pub start : g .start ≡ c .start
