@@ -1,4 +1,4 @@
--- Named certificates of document 01, "Known certificates", their rules, and schedules over them.
+-- Examples: named certificates of document 01, "Known certificates", their rules, and schedules over them.
 -- Assumes nothing.
 use Prim.Native.Nat.{ℕ}
 use mathlib.Core.Bool.{Bool, true, false, _||_}

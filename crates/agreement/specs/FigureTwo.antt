@@ -7,7 +7,7 @@ use mathlib.Core.List.{List}
 use Rattle.recording.specs.declared.Seat.{Seat}
 use Rattle.loom.specs.declared.Side.{Side}
 use Rattle.loom.specs.Turn.{Rules}
-use Rattle.agreement.specs.Machine.{Filled, Act, EachStep, after, opening}
+use Rattle.agreement.specs.Machine.{NotZero, Act, EachStep, after, opening}
 use Rattle.agreement.specs.Figure.{Value, Access, Objects, access, ran, initial}
 use Rattle.agreement.specs.Matched.{settingOf, placeAt, Matched}
 use Rattle.agreement.specs.JoinedLaws.{joined-after, joined-opening, lineAt, line-at-its-place}
@@ -15,12 +15,12 @@ use Rattle.agreement.specs.MatchedLaws.{teamOfAccess}
 
 module _ (next : ℕ → ℕ → ℕ) (looms : List Seat) (R : Rules) where
   -- Whatever the acts, the looms and Figure 2's processes stay in the same state.
-  pub figure-two : (acts : List Act) → EachStep (λ k v. Filled v) acts →
+  pub figure-two : (acts : List Act) → EachStep (λ k v. NotZero v) acts →
       Matched (R .leading) (settingOf next looms R)
       (after next looms R acts (opening (R .start)))
       (ran (settingOf next looms R) acts (initial (settingOf next looms R)))
-  figure-two acts filled =
-      let joined = joined-after next looms R acts (opening (R .start)) (initial (settingOf next looms R)) filled (joined-opening next looms R) in
+  figure-two acts not-zero =
+      let joined = joined-after next looms R acts (opening (R .start)) (initial (settingOf next looms R)) not-zero (joined-opening next looms R) in
       record {
         cell = joined .same .cell;
         leading = joined .same .leading;

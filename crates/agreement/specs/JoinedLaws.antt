@@ -16,7 +16,7 @@ use Rattle.loom.specs.declared.Place.the-variants.{Begin, Posted, Looking, Read
 use Rattle.loom.specs.Sides.{other, sameSide, register}
 use Rattle.loom.specs.Turn.{Rules, turnOf}
 use Rattle.loom.specs.SidesLaws.{same-as-itself}
-use Rattle.agreement.specs.Machine.{Filled, Act, step, restart, restartAll, EachStep, State, sideOf, changedAt, withPost, withSaid, turned, steppedFrom, stepped, acted, after, opening}
+use Rattle.agreement.specs.Machine.{NotZero, Act, step, restart, restartAll, EachStep, State, sideOf, changedAt, withPost, withSaid, turned, steppedFrom, stepped, acted, after, opening}
 use Rattle.agreement.specs.MachineLaws.{changed-itself, changed-other}
 use Rattle.agreement.specs.LogLaws.{changed-all}
 use Rattle.agreement.specs.Figure.{Team, teamA, teamB, Value, Access, at5, at6, at8, at9, at11, at12, at16, at17, at19, at20, at22, at23, at26, at27, Process, running, returned, Objects, System, Setting, firstLine, access, ahead, movedFrom, moved, ran, initial}
@@ -69,7 +69,7 @@ module _ (next : ℕ → ℕ → ℕ) (looms : List Seat) (R : Rules) where
       (λ j apart. changed-other (S .place) k p j apart ∙ old j)
 
   -- A step of both, by the line of the process.
-  pub joined-stepped : (S : State) (F : System) (k v : ℕ) → Filled v → Joined S F → (P : Process) (p : Place) →
+  pub joined-stepped : (S : State) (F : System) (k v : ℕ) → NotZero v → Joined S F → (P : Process) (p : Place) →
       p ≡ placeOf (R .leading) (settingOf next looms R) P → InCode (teamOf (R .leading) (sideOf looms k)) P → P ≡ F .process k →
       Joined (steppedFrom next looms R k v p S) (movedFrom (settingOf next looms R) k v P F)
   unfolding steppedFrom turned movedFrom turnOf withPost withSaid
@@ -136,15 +136,15 @@ module _ (next : ℕ → ℕ → ℕ) (looms : List Seat) (R : Rules) where
           }
 
   -- Every act keeps the two machines in one state, and so does every list of acts.
-  pub joined-acted : (a : Act) (acts : List Act) (S : State) (F : System) → EachStep (λ k v. Filled v) (a ∷ acts) → Joined S F →
+  pub joined-acted : (a : Act) (acts : List Act) (S : State) (F : System) → EachStep (λ k v. NotZero v) (a ∷ acts) → Joined S F →
       Joined (acted next looms R a S) (moved (settingOf next looms R) a F)
   unfolding acted moved stepped
-  joined-acted (step k v) acts S F filled joined = by-test (ltb k (length looms))
+  joined-acted (step k v) acts S F not-zero joined = by-test (ltb k (length looms))
     where
       by-test : (b : Bool) → Joined (cond b (stepped next looms R k v S) S) (cond b (movedFrom (settingOf next looms R) k v (F .process k) F) F)
-      by-test true = joined-stepped S F k v (filled .0) joined (F .process k) (S .place k) (joined .place k) (joined .code k) refl
+      by-test true = joined-stepped S F k v (not-zero .0) joined (F .process k) (S .place k) (joined .place k) (joined .code k) refl
       by-test false = joined
-  joined-acted (restart k) acts S F filled joined =
+  joined-acted (restart k) acts S F not-zero joined =
       record {
         same = joined .same;
         place = place-joined S F k Begin _ (joined .place) (sym (place-of-first (R .leading) (settingOf next looms R) (teamOf (R .leading) (sideOf looms k))));
@@ -158,7 +158,7 @@ module _ (next : ℕ → ℕ → ℕ) (looms : List Seat) (R : Rules) where
             (λ j apart. joined .code j);
         answers = joined .answers;
       }
-  joined-acted restartAll acts S F filled joined =
+  joined-acted restartAll acts S F not-zero joined =
       record {
         same = joined .same;
         place = λ j. sym (place-of-first (R .leading) (settingOf next looms R) (teamOf (R .leading) (sideOf looms j)));
@@ -166,13 +166,13 @@ module _ (next : ℕ → ℕ → ℕ) (looms : List Seat) (R : Rules) where
         answers = joined .answers;
       }
 
-  pub joined-after : (acts : List Act) (S : State) (F : System) → EachStep (λ k v. Filled v) acts → Joined S F →
+  pub joined-after : (acts : List Act) (S : State) (F : System) → EachStep (λ k v. NotZero v) acts → Joined S F →
       Joined (after next looms R acts S) (ran (settingOf next looms R) acts F)
   unfolding after ran
-  joined-after [] S F filled joined = joined
-  joined-after (step k v ∷ acts) S F filled joined = joined-after acts _ _ (filled .1) (joined-acted (step k v) acts S F filled joined)
-  joined-after (restart k ∷ acts) S F filled joined = joined-after acts _ _ filled (joined-acted (restart k) acts S F filled joined)
-  joined-after (restartAll ∷ acts) S F filled joined = joined-after acts _ _ filled (joined-acted restartAll acts S F filled joined)
+  joined-after [] S F not-zero joined = joined
+  joined-after (step k v ∷ acts) S F not-zero joined = joined-after acts _ _ (not-zero .1) (joined-acted (step k v) acts S F not-zero joined)
+  joined-after (restart k ∷ acts) S F not-zero joined = joined-after acts _ _ not-zero (joined-acted (restart k) acts S F not-zero joined)
+  joined-after (restartAll ∷ acts) S F not-zero joined = joined-after acts _ _ not-zero (joined-acted restartAll acts S F not-zero joined)
 
   -- They open in one state.
   pub joined-opening : Joined (opening (R .start)) (initial (settingOf next looms R))

@@ -1,12 +1,12 @@
 pub mod Machine
 pub mod Agreed
 pub mod Fitted
-pub mod Orders
-pub mod Teams
+pub mod OrdersLaws
+pub mod TeamsLaws
 pub mod Phases
 pub mod LogLaws
 pub mod PhasesLaws
-pub mod Told
+pub mod ToldLaws
 pub mod Agreement
 pub mod MachineLaws
 pub mod Steps

@@ -12,7 +12,7 @@ use Rattle.loom.specs.declared.Side.{Side}
 use Rattle.loom.specs.declared.Shared.{Shared}
 use Rattle.loom.specs.Sides.{other, register, withRegister, withCell}
 use Rattle.loom.specs.SidesLaws.{same-or-other, register-written, register-kept, register-untouched}
-use Rattle.agreement.specs.Machine.{Filled, Event, posted, applied, answered, changedAt}
+use Rattle.agreement.specs.Machine.{NotZero, Event, posted, applied, answered, changedAt}
 use Rattle.agreement.specs.Agreed.{Came, Had, NoneApplied, Settled}
 use Rattle.agreement.specs.Phases.{Fits, AllFit, Honest}
 
@@ -79,10 +79,10 @@ settled-by X log fit =
     names i s v (older, came) = fits-at X (answered i s v) older log fit came .0
 
 -- A register that is filled stays filled, and what it holds was posted.
-pub filled-still : (m : Shared) (s : Side) (v : ℕ) → Filled v → (x : Side) → Filled (register m x) → Filled (register (withRegister m s v) x)
-filled-still m s v some x old = by-side (same-or-other x s)
+pub not-zero-still : (m : Shared) (s : Side) (v : ℕ) → NotZero v → (x : Side) → NotZero (register m x) → NotZero (register (withRegister m s v) x)
+not-zero-still m s v some x old = by-side (same-or-other x s)
   where
-    by-side : (x ≡ s) ⊎ (x ≡ other s) → Filled (register (withRegister m s v) x)
+    by-side : (x ≡ s) ⊎ (x ≡ other s) → NotZero (register (withRegister m s v) x)
     by-side (inl e) none = some (sym (register-written m s v) ∙ rw e at none)
     by-side (inr e) none = old (rw e (sym (register-kept m s v) ∙ rw e at none))
 

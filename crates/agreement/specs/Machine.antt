@@ -20,8 +20,8 @@ use Rattle.loom.specs.Sides.{sideFrom}
 use Rattle.loom.specs.Turn.{Rules, Turn, turnOf}
 
 -- A number that can be posted: "0 means not posted".
-abbrev pub Filled : ℕ → Type 0
-Filled v = v ≡ 0 → ⊥
+abbrev pub NotZero : ℕ → Type 0
+NotZero v = v ≡ 0 → ⊥
 
 -- What can be seen of a machine at work.
 pub data Event : Type 0 where

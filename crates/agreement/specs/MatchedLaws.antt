@@ -14,7 +14,7 @@ use Rattle.loom.specs.declared.Shared.{Shared}
 use Rattle.loom.specs.Sides.{other, sameSide, register, withCell}
 use Rattle.loom.specs.Turn.{Rules, Turn, turnOf, decided, looks, afterPosted, afterLooking}
 use Rattle.loom.specs.SidesLaws.{other-other, same-as-itself, cell-kept, register-written, register-kept, register-untouched}
-use Rattle.agreement.specs.Machine.{Filled, Event, withPost, withSaid}
+use Rattle.agreement.specs.Machine.{NotZero, Event, withPost, withSaid}
 use Rattle.agreement.specs.Figure.{Team, teamA, teamB, Value, Line, line5, line6, line7, line9, line11, line16, line17, line18, line20, line22, line23, line26, Access, at5, at6, at8, at9, at11, at12, at16, at17, at19, at20, at22, at23, at26, at27, Process, running, returned, Objects, Return, Done, Setting, test, afterLine19, access, withReturn, ahead}
 use Rattle.agreement.specs.Matched.{sideOfTeam, settingOf, number, placeAt, placeOf, Given, answersOf, returnsOf}
 
@@ -57,7 +57,7 @@ InCode X (returned Y r) = Unit {0}
 -- What a register holds is no 0.
 abbrev pub Proper : Value → Type 0
 Proper none = Unit {0}
-Proper (some v) = Filled v
+Proper (some v) = NotZero v
 
 -- Of two lines of one team, either is of that team.
 pub team-of-cond : (b : Bool) (X : Team) (x y : Access) → teamOfAccess x ≡ X → teamOfAccess y ≡ X → teamOfAccess (cond b x y) ≡ X
@@ -183,7 +183,7 @@ module _ (next : ℕ → ℕ → ℕ) (looms : List Seat) (R : Rules) where
   place-after-line-nineteen m (some (suc v)) q proper holds = rw (other-other (R .leading), holds) (ap Bound (other-other (R .leading)))
 
   -- Memory that is not written stays the same.
-  pub turn-is-access : (a : Access) (v : ℕ) (op : ℕ → ℕ) (m : Shared) (q : Value) (M : Objects) → Filled v → Same (R .leading) m M →
+  pub turn-is-access : (a : Access) (v : ℕ) (op : ℕ → ℕ) (m : Shared) (q : Value) (M : Objects) → NotZero v → Same (R .leading) m M →
       Equal
       (R .leading)
       (settingOf next looms R)

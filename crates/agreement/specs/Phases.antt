@@ -10,14 +10,14 @@ use mathlib.Core.List.{List, [], _∷_}
 use lib.Dec.{T}
 use lib.ListN.{length}
 use Rattle.recording.specs.declared.Seat.{Seat}
-use Rattle.recording.specs.Recording.{times, Order, reached}
+use Rattle.recording.specs.Recording.{times, Sequence, reached}
 use Rattle.loom.specs.declared.Side.{Side}
 use Rattle.loom.specs.declared.Place.{Place}
 use Rattle.loom.specs.declared.Place.the-variants.{Begin, Posted, Looking, Ready, Applied, Bound, Answered}
 use Rattle.loom.specs.declared.Shared.{Shared}
 use Rattle.loom.specs.Sides.{sideNumber, other, register}
 use Rattle.loom.specs.Turn.{Rules}
-use Rattle.agreement.specs.Machine.{Filled, Event, posted, applied, answered, State, sideOf}
+use Rattle.agreement.specs.Machine.{NotZero, Event, posted, applied, answered, State, sideOf}
 use Rattle.agreement.specs.Agreed.{Had, NoneApplied}
 
 -- The phases.
@@ -39,7 +39,7 @@ AllFit X (e ∷ older) = Fits X e older × AllFit X older
 
 -- What a register holds, a loom of its side has posted.
 abbrev pub Honest : Shared → List Event → Type 0
-Honest m log = (x : Side) → Filled (register m x) → (j : ℕ) × Had (posted j x (register m x)) log
+Honest m log = (x : Side) → NotZero (register m x) → (j : ℕ) × Had (posted j x (register m x)) log
 
 -- Whether a loom has left the beginning.
 abbrev pub begun : Place → Bool
@@ -88,7 +88,7 @@ module _ (next : ℕ → ℕ → ℕ) (looms : List Seat) (start : ℕ) (R : Rul
 
   -- A loom that has left the beginning is one of the group, and its side's register is filled.
   abbrev pub Begun : Shared → ℕ → Place → Type 0
-  Begun m k p = T (begun p) → (k < length looms) × Filled (register m (sideOf looms k))
+  Begun m k p = T (begun p) → (k < length looms) × NotZero (register m (sideOf looms k))
 
   -- Fresh: the cell is at the start and no loom has applied its operation.
   pub record Fresh (m : Shared) (log : List Event) : Type 0 where
@@ -99,15 +99,15 @@ module _ (next : ℕ → ℕ → ℕ) (looms : List Seat) (start : ℕ) (R : Rul
   -- Even: the cell is at the start, the leading side has posted, and the yielding side has one loom.
   pub record Even (m : Shared) (log : List Event) : Type 0 where
     pub at-start : m .cell ≡ start
-    pub led : Filled (register m (R .leading))
+    pub led : NotZero (register m (R .leading))
     pub alone : R .yieldsAlone ≡ true
     pub fit : AllFit (R .leading) log
 
   -- First: the cell is where the looms `us` have taken it, a loom of X first.
   pub record First (X : Side) (us : List ℕ) (m : Shared) (log : List Event) : Type 0 where
     pub reaches : m .cell ≡ reached next looms start us
-    pub order : Order looms (sideNumber X) us
-    pub led : Filled (register m X)
+    pub order : Sequence looms (sideNumber X) us
+    pub led : NotZero (register m X)
     pub some-applied : NoneApplied log → ⊥
     pub fit : AllFit X log
 

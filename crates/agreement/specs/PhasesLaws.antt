@@ -10,7 +10,7 @@ use lib.Dec.{eqb, ltb}
 use lib.ListN.{length}
 use borrow.Author.Tests.{eqb-true, eqb-false, eq-eqb, ne-eqb, ltb-true}
 use Rattle.recording.specs.declared.Seat.{Seat}
-use Rattle.recording.specs.Recording.{operationAt, sideCount, times, Order, reached, InSet}
+use Rattle.recording.specs.Recording.{operationAt, sideCount, times, Sequence, reached, InSet}
 use Rattle.loom.specs.declared.Side.{Side}
 use Rattle.loom.specs.declared.Side.the-variants.{A, B}
 use Rattle.loom.specs.declared.Place.{Place}
@@ -19,13 +19,13 @@ use Rattle.loom.specs.declared.Shared.{Shared}
 use Rattle.loom.specs.Sides.{sideNumber, other, sameSide, register, withRegister, withCell}
 use Rattle.loom.specs.Turn.{Rules, turnOf, decided, looks, afterPosted, afterLooking}
 use Rattle.loom.specs.SidesLaws.{same-or-other, other-other, same-side, same-as-itself, cell-kept, register-written, register-untouched}
-use Rattle.agreement.specs.Machine.{Filled, Event, posted, applied, answered, Act, step, restart, restartAll, EachStep, State, sideOf, changedAt, withPost, withSaid, turned, replaced, steppedFrom, stepped, acted, after, opening}
+use Rattle.agreement.specs.Machine.{NotZero, Event, posted, applied, answered, Act, step, restart, restartAll, EachStep, State, sideOf, changedAt, withPost, withSaid, turned, replaced, steppedFrom, stepped, acted, after, opening}
 use Rattle.agreement.specs.Agreed.{NoneApplied}
 use Rattle.agreement.specs.Fitted.{Fitted}
-use Rattle.agreement.specs.Orders.{order-of-one, order-of-one-more, reached-by-one-more, not-in-one-more}
-use Rattle.agreement.specs.Teams.{side-number, start-or-alone, every-loom-appears, decides, one-yields, leads-without}
+use Rattle.agreement.specs.OrdersLaws.{order-of-one, order-of-one-more, reached-by-one-more, not-in-one-more}
+use Rattle.agreement.specs.TeamsLaws.{side-number, start-or-alone, every-loom-appears, decides, one-yields, leads-without}
 use Rattle.agreement.specs.Phases.{Phase, fresh, even, first, AllFit, Honest, Wins, MayApply, MayLook, MayRead, Stands, Begun, First, Phased, Holds}
-use Rattle.agreement.specs.LogLaws.{had-nothing, had-latest, had-still, none-applied-by-post, still-applied, filled-still, honest-post, honest-application, changed-all}
+use Rattle.agreement.specs.LogLaws.{had-nothing, had-latest, had-still, none-applied-by-post, still-applied, not-zero-still, honest-post, honest-application, changed-all}
 
 module _ {next : ℕ → ℕ → ℕ} {looms : List Seat} {start : ℕ} {R : Rules} (given : Fitted next looms start R) where
   -- The invariant with another place for loom k, and nothing else changed.
@@ -41,14 +41,14 @@ module _ {next : ℕ → ℕ → ℕ} {looms : List Seat} {start : ℕ} {R : Rul
       }
 
   -- A post changes no phase.
-  pub phased-post : (phase : Phase) (m : Shared) (log : List Event) (k : ℕ) (s : Side) (v : ℕ) → Filled v → Phased next looms start R phase m log →
+  pub phased-post : (phase : Phase) (m : Shared) (log : List Event) (k : ℕ) (s : Side) (v : ℕ) → NotZero v → Phased next looms start R phase m log →
       Phased next looms start R phase (withRegister m s v) (posted k s v ∷ log)
   phased-post fresh m log k s v some known =
       record { at-start = cell-kept m s v ∙ known .at-start; unapplied = none-applied-by-post k s v log (known .unapplied); fit = λ X. (tt, known .fit X) }
   phased-post even m log k s v some known =
       record {
         at-start = cell-kept m s v ∙ known .at-start;
-        led = filled-still m s v some (R .leading) (known .led);
+        led = not-zero-still m s v some (R .leading) (known .led);
         alone = known .alone;
         fit = (tt, known .fit);
       }
@@ -56,7 +56,7 @@ module _ {next : ℕ → ℕ → ℕ} {looms : List Seat} {start : ℕ} {R : Rul
     record {
       reaches = cell-kept m s v ∙ known .reaches;
       order = known .order;
-      led = filled-still m s v some X (known .led);
+      led = not-zero-still m s v some X (known .led);
       some-applied = still-applied (posted k s v) log (known .some-applied);
       fit = (tt, known .fit);
     },
@@ -64,7 +64,7 @@ module _ {next : ℕ → ℕ → ℕ} {looms : List Seat} {start : ℕ} {R : Rul
   )
 
   -- A post keeps the invariant.
-  pub holds-posted : (S : State) (k v : ℕ) → k < length looms → Filled v → Holds next looms start R S →
+  pub holds-posted : (S : State) (k v : ℕ) → k < length looms → NotZero v → Holds next looms start R S →
       Holds next looms start R (steppedFrom next looms R k v Begin S)
   unfolding steppedFrom turned turnOf withPost withSaid
   holds-posted S k v here some known =
@@ -79,7 +79,7 @@ module _ {next : ℕ → ℕ → ℕ} {looms : List Seat} {start : ℕ} {R : Rul
             k
             Posted
             (λ t. (here, λ none. some (sym (register-written (S .shared) (sideOf looms k) v) ∙ none)))
-            (λ j apart t. (known .begins j t .0, filled-still (S .shared) (sideOf looms k) v some (sideOf looms j) (known .begins j t .1)));
+            (λ j apart t. (known .begins j t .0, not-zero-still (S .shared) (sideOf looms k) v some (sideOf looms j) (known .begins j t .1)));
         honest = honest-post k (S .shared) (sideOf looms k) v (S .log) (known .honest);
       }
 
@@ -158,7 +158,7 @@ module _ {next : ℕ → ℕ → ℕ} {looms : List Seat} {start : ℕ} {R : Rul
 
   -- A loom that yields keeps the invariant.
   pub holds-bound : (S : State) (k : ℕ) (x : Side) (known : Holds next looms start R S) → Stands next looms start R (known .phase) k Looking →
-      Begun next looms start R (S .shared) k (Bound x) → Filled (register (S .shared) (R .leading)) → x ≡ R .leading →
+      Begun next looms start R (S .shared) k (Bound x) → NotZero (register (S .shared) (R .leading)) → x ≡ R .leading →
       Holds next looms start R (replaced S (changedAt (S .place) k (Bound x)))
   holds-bound S k x known stands begins led leads = by-phase (known .phase) (known .phased) (known .stands) stands
     where
@@ -206,7 +206,7 @@ module _ {next : ℕ → ℕ → ℕ} {looms : List Seat} {start : ℕ} {R : Rul
           holds-bound S k (other (sideOf looms k)) known stands begins (λ none. omega (arith, rw leads at e)) leads
 
   -- Where looms have taken the cell back to the start, a loom of the leading side was first among them.
-  pub leading-first : (X : Side) (us : List ℕ) → Order looms (sideNumber X) us → reached next looms start us ≡ start → X ≡ R .leading
+  pub leading-first : (X : Side) (us : List ℕ) → Sequence looms (sideNumber X) us → reached next looms start us ≡ start → X ≡ R .leading
   leading-first X us order back = by-side (same-or-other X (R .leading))
     where
       by-side : (X ≡ R .leading) ⊎ (X ≡ other (R .leading)) → X ≡ R .leading
@@ -214,7 +214,7 @@ module _ {next : ℕ → ℕ → ℕ} {looms : List Seat} {start : ℕ} {R : Rul
       by-side (inr e) = absurd (given .renders .the-yielding (us, (rw e at order), back))
 
   -- Then the yielding side has one loom.
-  pub alone-at-return : (us : List ℕ) → Order looms (sideNumber (R .leading)) us → reached next looms start us ≡ start → R .yieldsAlone ≡ true
+  pub alone-at-return : (us : List ℕ) → Sequence looms (sideNumber (R .leading)) us → reached next looms start us ≡ start → R .yieldsAlone ≡ true
   alone-at-return us order back = by-clause (start-or-alone given (R .leading))
     where
       by-clause : (InSet next looms start (sideNumber (R .leading)) start → ⊥) ⊎ (sideCount (sideNumber (other (R .leading))) looms ≡ 1) →
@@ -223,7 +223,7 @@ module _ {next : ℕ → ℕ → ℕ} {looms : List Seat} {start : ℕ} {R : Rul
       by-clause (inr count) = given .renders .the-count .1 count
 
   -- And no loom of the yielding side is ready: by Lemma 7 they are all among those that applied.
-  pub stands-at-return : (m : Shared) (us : List ℕ) → Order looms (sideNumber (R .leading)) us → reached next looms start us ≡ start →
+  pub stands-at-return : (m : Shared) (us : List ℕ) → Sequence looms (sideNumber (R .leading)) us → reached next looms start us ≡ start →
       (j : ℕ) (p : Place) → Stands next looms start R (first (R .leading) us) j p → Begun next looms start R m j p → Stands next looms start R even j p
   stands-at-return m us order back j Begin old begin = tt
   stands-at-return m us order back j Posted old begin = tt
@@ -279,7 +279,7 @@ module _ {next : ℕ → ℕ → ℕ} {looms : List Seat} {start : ℕ} {R : Rul
 
   -- An application keeps the invariant, from whatever phase: the looms `us` and then k have taken the cell to where it is.
   pub holds-one-more : (S : State) (k v : ℕ) (known : Holds next looms start R S) → Begun next looms start R (S .shared) k Ready → (X : Side) (us : List ℕ) →
-      S .shared .cell ≡ reached next looms start us → Order looms (sideNumber X) (us ++ (k ∷ [])) → Filled (register (S .shared) X) →
+      S .shared .cell ≡ reached next looms start us → Sequence looms (sideNumber X) (us ++ (k ∷ [])) → NotZero (register (S .shared) X) →
       AllFit X (S .log) → (NoneApplied (S .log) → sideOf looms k ≡ X) →
       ((j : ℕ) → MayLook next looms start R (known .phase) j → times j us ≡ 0) → ((j : ℕ) → MayApply next looms start R (known .phase) j → times j us ≡ 0) →
       ((x : Side) → Wins next looms start R (known .phase) x → x ≡ X) → Holds next looms start R (steppedFrom next looms R k v Ready S)
@@ -309,8 +309,8 @@ module _ {next : ℕ → ℕ → ℕ} {looms : List Seat} {start : ℕ} {R : Rul
       cell : ℕ
       cell = next (operationAt looms k) (S .shared .cell)
 
-      untouched : (j : ℕ) → (j < length looms) × Filled (register (S .shared) (sideOf looms j)) →
-          (j < length looms) × Filled (register (withCell (S .shared) cell) (sideOf looms j))
+      untouched : (j : ℕ) → (j < length looms) × NotZero (register (S .shared) (sideOf looms j)) →
+          (j < length looms) × NotZero (register (withCell (S .shared) cell) (sideOf looms j))
       untouched j (here, full) = (here, λ none. full (sym (register-untouched (S .shared) cell (sideOf looms j)) ∙ none))
 
   pub holds-applied : (S : State) (k v : ℕ) (known : Holds next looms start R S) → Stands next looms start R (known .phase) k Ready →
@@ -422,7 +422,7 @@ module _ {next : ℕ → ℕ → ℕ} {looms : List Seat} {start : ℕ} {R : Rul
       }
 
   -- Every step keeps the invariant, from whatever place.
-  pub holds-stepped : (S : State) (k v : ℕ) → k < length looms → Filled v → Holds next looms start R S → Holds next looms start R (stepped next looms R k v S)
+  pub holds-stepped : (S : State) (k v : ℕ) → k < length looms → NotZero v → Holds next looms start R S → Holds next looms start R (stepped next looms R k v S)
   unfolding stepped steppedFrom turned turnOf withPost withSaid
   holds-stepped S k v here some known = by-place (S .place k) (known .stands k) (known .begins k)
     where
@@ -451,25 +451,25 @@ module _ {next : ℕ → ℕ → ℕ} {looms : List Seat} {start : ℕ} {R : Rul
       by-place (Answered x) stands begins = holds-placed S k (Answered x) known stands begins
 
   -- Every act keeps it, and so does every list of acts. A restarted loom is a loom at the beginning: nothing is asked of it.
-  pub holds-acted : (a : Act) (acts : List Act) (S : State) → EachStep (λ k v. Filled v) (a ∷ acts) → Holds next looms start R S →
+  pub holds-acted : (a : Act) (acts : List Act) (S : State) → EachStep (λ k v. NotZero v) (a ∷ acts) → Holds next looms start R S →
       Holds next looms start R (acted next looms R a S)
   unfolding acted
-  holds-acted (step k v) acts S filled known = by-test (ltb k (length looms)) refl
+  holds-acted (step k v) acts S not-zero known = by-test (ltb k (length looms)) refl
     where
       by-test : (b : Bool) → ltb k (length looms) ≡ b → Holds next looms start R (cond b (stepped next looms R k v S) S)
-      by-test true e = holds-stepped S k v (ltb-true k (length looms) e) (filled .0) known
+      by-test true e = holds-stepped S k v (ltb-true k (length looms) e) (not-zero .0) known
       by-test false e = known
-  holds-acted (restart k) acts S filled known = holds-placed S k Begin known tt (λ t. absurd t)
-  holds-acted restartAll acts S filled known =
+  holds-acted (restart k) acts S not-zero known = holds-placed S k Begin known tt (λ t. absurd t)
+  holds-acted restartAll acts S not-zero known =
       record { phase = known .phase; phased = known .phased; stands = λ j. tt; begins = λ j t. absurd t; honest = known .honest }
 
-  pub holds-after : (acts : List Act) (S : State) → EachStep (λ k v. Filled v) acts → Holds next looms start R S →
+  pub holds-after : (acts : List Act) (S : State) → EachStep (λ k v. NotZero v) acts → Holds next looms start R S →
       Holds next looms start R (after next looms R acts S)
   unfolding after
-  holds-after [] S filled known = known
-  holds-after (step k v ∷ acts) S filled known = holds-after acts _ (filled .1) (holds-acted (step k v) acts S filled known)
-  holds-after (restart k ∷ acts) S filled known = holds-after acts _ filled (holds-acted (restart k) acts S filled known)
-  holds-after (restartAll ∷ acts) S filled known = holds-after acts _ filled (holds-acted restartAll acts S filled known)
+  holds-after [] S not-zero known = known
+  holds-after (step k v ∷ acts) S not-zero known = holds-after acts _ (not-zero .1) (holds-acted (step k v) acts S not-zero known)
+  holds-after (restart k ∷ acts) S not-zero known = holds-after acts _ not-zero (holds-acted (restart k) acts S not-zero known)
+  holds-after (restartAll ∷ acts) S not-zero known = holds-after acts _ not-zero (holds-acted restartAll acts S not-zero known)
 
   -- The invariant holds at the opening.
   pub holds-opening : Holds next looms start R (opening start)

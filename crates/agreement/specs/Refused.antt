@@ -1,5 +1,5 @@
--- What is asked is used: without it, schedules on which the looms disagree. Each is run by the same definitions, on a group that was filled
--- in without the check.
+-- Examples: what is asked is used; without it, schedules on which the looms disagree. Each is run by the same definitions, on a group that
+-- was filled in without the check.
 -- Assumes nothing.
 use Prim.Native.Nat.{ℕ}
 use native.Mathlib.Omega.{arith}

@@ -9,9 +9,9 @@ use Rattle.loom.specs.declared.Loom.{Loom}
 use Rattle.loom.specs.declared.Shared.{Shared}
 use Rattle.group.specs.declared.Sets.{Sets}
 use Rattle.group.specs.declared.Numbers.{Numbers}
-use Rattle.loom.specs.Sides.{sideNumber, sideFrom, placeNumber}
+use Rattle.loom.specs.Sides.{sideNumber, sideFrom}
 use Rattle.loom.specs.declared.Said.{Said}
-use Rattle.loom.specs.Numbers.{placeFrom, saidNumber, saidApplied, saidPiece}
+use Rattle.loom.specs.Numbers.{placeNumber, placeFrom, saidNumber, saidApplied, saidPiece}
 use Rattle.group.specs.declared.Group.{Group}
 use Rattle.group.specs.declared.Restarted.{Restarted}
 use Rattle.group.specs.declared.Stepped.{Stepped}

@@ -11,7 +11,7 @@ use lib.ListN.{length}
 use Rattle.cell.specs.Limits.{edition}
 use Rattle.xdr.specs.Field.{wordAt}
 use Rattle.xdr.specs.FieldLaws.{field-taken, run-taken}
-use Rattle.format.specs.Accepted.{Passes, bounds}
+use Rattle.format.specs.AcceptedLaws.{Passes, bounds}
 use Rattle.format.specs.Format.{namesAct, itemAt}
 use Rattle.format.specs.Layout.{planOf}
 use Rattle.order.specs.Order.{wordsAt}

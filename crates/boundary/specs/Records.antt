@@ -9,7 +9,8 @@ use lib.ListN.{set}
 use Rattle.loom.specs.declared.Lead.{Lead}
 use Rattle.loom.specs.declared.Loom.{Loom}
 use Rattle.loom.specs.declared.Shared.{Shared}
-use Rattle.loom.specs.Sides.{sideNumber, sideFrom, placeNumber}
+use Rattle.loom.specs.Sides.{sideNumber, sideFrom}
+use Rattle.loom.specs.Numbers.{placeNumber}
 use Rattle.loom.specs.Looms.{rulesOf}
 use Rattle.group.specs.declared.Outcome.{Outcome}
 use Rattle.group.specs.Step.{stepOnOf}

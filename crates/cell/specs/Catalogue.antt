@@ -9,37 +9,37 @@ use lib.ListN.{length, drop}
 use Rattle.cell.specs.Limits.{edition}
 use Rattle.cell.specs.Table.{outsideOf}
 
--- A state of S_n: the winner, A or B, and a row.
-pub data Mark : Type 0 where
-  wonA : ℕ → Mark
-  wonB : ℕ → Mark
+-- A state of S_n: who won, A or B, and a row.
+pub data Won : Type 0 where
+  wonA : ℕ → Won
+  wonB : ℕ → Won
 
 -- "State r is (A, r) and state n + r is (B, r), r below n."
-abbrev pub numberOf : ℕ → Mark → ℕ
+abbrev pub numberOf : ℕ → Won → ℕ
 numberOf n (wonA r) = r
 numberOf n (wonB r) = n + r
 
 -- The same read back: the winner and the row of state q.
-abbrev pub markOf : ℕ → ℕ → Mark
-markOf n q = cond (ltb q n) (wonA q) (wonB (q - n))
+abbrev pub wonOf : ℕ → ℕ → Won
+wonOf n q = cond (ltb q n) (wonA q) (wonB (q - n))
 
 -- "Operation 0: from (B, 0) to (A, 0); from (A, r) to (B, 0); from (B, r) with r above 0, no move."
-abbrev pub operationZero : Mark → Mark
+abbrev pub operationZero : Won → Won
 operationZero (wonA r) = wonB 0
 operationZero (wonB zero) = wonA 0
 operationZero (wonB (suc r)) = wonB (suc r)
 
 -- "Operation 1: r goes up by one, and from r = n − 1 the cell goes to (B, 0)."
-abbrev pub operationOne : ℕ → Mark → Mark
+abbrev pub operationOne : ℕ → Won → Won
 operationOne n (wonA r) = cond (ltb (suc r) n) (wonA (suc r)) (wonB 0)
 operationOne n (wonB r) = cond (ltb (suc r) n) (wonB (suc r)) (wonB 0)
 
 -- The state after operation 0, or after operation 1, in state q.
 abbrev pub afterZero : ℕ → ℕ → ℕ
-afterZero n q = numberOf n (operationZero (markOf n q))
+afterZero n q = numberOf n (operationZero (wonOf n q))
 
 abbrev pub afterOne : ℕ → ℕ → ℕ
-afterOne n q = numberOf n (operationOne n (markOf n q))
+afterOne n q = numberOf n (operationOne n (wonOf n q))
 
 -- f of 0, 1, .. below k
 abbrev pub each : (ℕ → ℕ) → ℕ → List ℕ
@@ -49,10 +49,6 @@ each f (suc k) = each f k ++ (f k ∷ [])
 -- "4n bytes in table order": operation 0 in each of the 2n states, and then operation 1.
 unfoldable pub tableOf : ℕ → List ℕ
 tableOf n = each (afterZero n) (2 * n) ++ each (afterOne n) (2 * n)
-
--- The entry at a place of that table, as the code finds it.
-unfoldable pub entryAt : ℕ → ℕ → ℕ
-entryAt n i = cond (ltb i (2 * n)) (afterZero n i) (afterOne n (i - 2 * n))
 
 -- "Catalogue: 41, then 40." 41: no such catalogue cell; n is from 2 to the most looms. 40: lent room too short.
 unfoldable pub catalogueCode : ℕ → ℕ → ℕ

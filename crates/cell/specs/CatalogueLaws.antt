@@ -16,41 +16,41 @@ use lib.Seq.{getD-append-seam, getD-append-add}
 use Rattle.cell.specs.Limits.{edition}
 use Rattle.cell.specs.Table.{entryOf, outsideOf}
 use Rattle.cell.specs.TableLaws.{HasForm, not-outside}
-use Rattle.cell.specs.Catalogue.{wonA, wonB, markOf, afterZero, afterOne, each, tableOf, entryAt, catalogueCode, writtenUnder, catalogueRoom, Catalogued}
+use Rattle.cell.specs.Catalogue.{wonA, wonB, wonOf, afterZero, afterOne, each, tableOf, catalogueCode, writtenUnder, catalogueRoom, Catalogued}
 
 le-of-not-lt : (q n : ℕ) → ¬ (q < n) → n ≤ q
 le-of-not-lt q n h = omega arith
 
--- The mark of each state.
-mark-A : (n r : ℕ) → r < n → markOf n r ≡ wonA r
-mark-A n r h = simp (lt-ltb _ _ h)
+-- The winner and the row of each state.
+won-A : (n r : ℕ) → r < n → wonOf n r ≡ wonA r
+won-A n r h = simp (lt-ltb _ _ h)
 
-mark-B : (n r : ℕ) → markOf n (n + r) ≡ wonB r
-mark-B n r = rw (le-ltb (n + r) n (omega arith)) (ap wonB (add-sub-cancel-left n r))
+won-B : (n r : ℕ) → wonOf n (n + r) ≡ wonB r
+won-B n r = rw (le-ltb (n + r) n (omega arith)) (ap wonB (add-sub-cancel-left n r))
 
 module _ (n r : ℕ) where
   -- Operation 0 from (A, r), from (B, 0), and from (B, r) with r above 0.
   pub zero-from-A : r < n → afterZero n r ≡ n
-  zero-from-A h = rw (mark-A n r h) (add-zero n)
+  zero-from-A h = rw (won-A n r h) (add-zero n)
 
   pub zero-from-start : afterZero n (n + 0) ≡ 0
-  zero-from-start = rw (mark-B n 0) refl
+  zero-from-start = rw (won-B n 0) refl
 
   pub zero-stays : afterZero n (n + suc r) ≡ n + suc r
-  zero-stays = rw (mark-B n (suc r)) refl
+  zero-stays = rw (won-B n (suc r)) refl
 
   -- Operation 1 from (A, r) and from (B, r): up, and from the last row to (B, 0).
   pub one-up-A : suc r < n → afterOne n r ≡ suc r
-  one-up-A h = rw (mark-A n r (omega arith)) (simp (lt-ltb _ _ h))
+  one-up-A h = rw (won-A n r (omega arith)) (simp (lt-ltb _ _ h))
 
   pub one-back-A : suc r ≡ n → afterOne n r ≡ n
-  one-back-A e = rw (mark-A n r (omega arith)) (simp (le-ltb (suc r) n (omega arith)) (add-zero n))
+  one-back-A e = rw (won-A n r (omega arith)) (simp (le-ltb (suc r) n (omega arith)) (add-zero n))
 
   pub one-up-B : suc r < n → afterOne n (n + r) ≡ n + suc r
-  one-up-B h = rw (mark-B n r) (simp (lt-ltb _ _ h))
+  one-up-B h = rw (won-B n r) (simp (lt-ltb _ _ h))
 
   pub one-back-B : n ≤ suc r → afterOne n (n + r) ≡ n
-  one-back-B h = rw (mark-B n r) (simp (le-ltb _ _ h) (add-zero n))
+  one-back-B h = rw (won-B n r) (simp (le-ltb _ _ h) (add-zero n))
 
 -- The same on the states' numbers, as the code has it.
 pub zero-of-number : (n q : ℕ) → n < q → afterZero n q ≡ q
@@ -129,6 +129,10 @@ table-of-one n q h =
     ap (λ (x : ℕ). getD (each (afterZero n) (2 * n) ++ each (afterOne n) (2 * n)) (x + q) 0) (sym (length-each (afterZero n) (2 * n)))
     ∙ getD-append-add (each (afterZero n) (2 * n)) (each (afterOne n) (2 * n)) q 0
     ∙ getD-each (afterOne n) (2 * n) q h
+
+-- The entry at a place of the table, as the code finds it.
+unfoldable pub entryAt : ℕ → ℕ → ℕ
+entryAt n i = cond (ltb i (2 * n)) (afterZero n i) (afterOne n (i - 2 * n))
 
 pub table-entry : (n i : ℕ) → i < 4 * n → getD (tableOf n) i 0 ≡ entryAt n i
 unfolding entryAt

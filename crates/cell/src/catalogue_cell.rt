@@ -4,7 +4,8 @@ ghost use Prim.Native.Nat.{_*_, _<_, _≤_};
 ghost use mathlib.Core.List.{_++_};
 ghost use lib.ListN.{length, drop};
 ghost use Rattle.cell.specs.Limits.{edition};
-ghost use Rattle.cell.specs.Catalogue.{afterZero, afterOne, entryAt, tableOf, catalogueCode, Catalogued};
+ghost use Rattle.cell.specs.Catalogue.{afterZero, afterOne, tableOf, catalogueCode, Catalogued};
+ghost use Rattle.cell.specs.CatalogueLaws.{entryAt};
 
 // Fills the room with the table of the catalogue cell of size n, 4n bytes, and answers 0. Later bytes stay. 41 if there is no such cell,
 // 40 if the room is too short; a refusal writes nothing.

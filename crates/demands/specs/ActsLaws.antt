@@ -8,7 +8,7 @@ use Rattle.loom.specs.declared.Side.{Side}
 use Rattle.agreement.specs.Machine.{Act as MachineAct}
 use Rattle.agreement.specs.Figure.{System, Setting, moved, ran}
 use Rattle.demands.specs.Acts.{Act, History, actedOn, historyAfter}
-use Rattle.demands.specs.Pictured.{numbered, allNumbered}
+use Rattle.demands.specs.Processes.{numbered, allNumbered}
 
 -- Acts with one more at the end are those acts, and then that one: on a group and its log,
 pub history-one-more : (table : List ℕ) (states operations : ℕ) (acts : List Act) (a : Act) (h : History) →

@@ -14,8 +14,7 @@ use Rattle.group.specs.Group.{numberOf, groupRules}
 use Rattle.group.specs.Open.{openOf}
 use Rattle.demands.specs.Acts.{Act, untouched, actedOn, historyAfter}
 use Rattle.demands.specs.ActsLaws.{history-one-more, numbered-one-more, ran-one-more}
-use Rattle.demands.specs.Pictured.{numbered, allNumbered}
-use Rattle.demands.specs.Processes.{settingIn, SameState}
+use Rattle.demands.specs.Processes.{settingIn, numbered, allNumbered, SameState}
 use Rattle.demands.specs.NewlyOpenedLaws.{rules-render, same-state-always}
 use Rattle.demands.specs.OpenedLaws.{newly-opened}
 

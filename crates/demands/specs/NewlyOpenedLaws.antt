@@ -11,7 +11,7 @@ use Rattle.recording.specs.declared.Seat.{Seat}
 use Rattle.recording.specs.Check.{loomsOf}
 use Rattle.loom.specs.declared.Side.{Side}
 use Rattle.loom.specs.Sides.{other, register}
-use Rattle.agreement.specs.Machine.{Filled, Act as MachineAct, EachStep, State, sideOf, after, opening}
+use Rattle.agreement.specs.Machine.{NotZero, Act as MachineAct, EachStep, State, sideOf, after, opening}
 use Rattle.agreement.specs.Fitted.{Renders, Fitted}
 use Rattle.agreement.specs.Agreed.{Agreed}
 use Rattle.agreement.specs.Agreement.{agreed}
@@ -27,11 +27,11 @@ use Rattle.group.specs.Group.{loomAt, numberOf, groupRules}
 use Rattle.group.specs.Step.{stepOf}
 use Rattle.demands.specs.Acts.{Act, loomSteps, loomRestarts, allRestart, untouched, historyAfter, groupAfter, eventsAfter}
 use Rattle.demands.specs.Fits.{Fits}
-use Rattle.demands.specs.Pictured.{numbered, allNumbered, Pictured}
+use Rattle.demands.specs.Pictured.{Pictured}
 use Rattle.demands.specs.PicturedLaws.{rules-of-seats, Along, along-always}
 use Rattle.demands.specs.RendersLaws.{renders-of-sets}
 use Rattle.demands.specs.NewlyOpened.{NewlyOpened}
-use Rattle.demands.specs.Processes.{settingIn, SameState}
+use Rattle.demands.specs.Processes.{settingIn, numbered, allNumbered, SameState}
 use Rattle.demands.specs.Steps.{stepsOf, Unrestarted, HasAnswered}
 use Rattle.demands.specs.StepsLaws.{steps-numbered, unrestarted-numbered, AllWithin, within-always, result-at-most-six}
 
@@ -77,7 +77,7 @@ module _ {table : List ℕ} {states operations : ℕ} {c : Certificate} {numbers
   pub agreed-always : (acts : List Act) → Agreed (numberOf numbers) (eventsAfter table states operations acts g)
   agreed-always acts =
       rw (along acts .pictured .log)
-      (agreed fitted (numberOf numbers) (new .filled) (allNumbered (numberOf numbers) (loomsOf c) acts) (each-numbered (numberOf numbers) (loomsOf c) acts))
+      (agreed fitted (numberOf numbers) (new .not-zero) (allNumbered (numberOf numbers) (loomsOf c) acts) (each-numbered (numberOf numbers) (loomsOf c) acts))
 
   counts-within : (acts : List Act) → AllWithin (length (loomsOf c)) (groupAfter table states operations acts g)
   counts-within acts =
@@ -145,10 +145,10 @@ module _ {table : List ℕ} {states operations : ℕ} {c : Certificate} {numbers
       machineActs : List MachineAct
       machineActs = allNumbered (numberOf numbers) (loomsOf c) acts
 
-      filled-acts : EachStep (λ k v. Filled v) machineActs
-      filled-acts =
-          each-step-weaker (λ k v. v ≡ numberOf numbers (sideOf (loomsOf c) k)) (λ k v. Filled v)
-          (λ k v e none. new .filled (sideOf (loomsOf c) k) (sym e ∙ none)) machineActs (each-numbered (numberOf numbers) (loomsOf c) acts)
+      not-zero-acts : EachStep (λ k v. NotZero v) machineActs
+      not-zero-acts =
+          each-step-weaker (λ k v. v ≡ numberOf numbers (sideOf (loomsOf c) k)) (λ k v. NotZero v)
+          (λ k v e none. new .not-zero (sideOf (loomsOf c) k) (sym e ∙ none)) machineActs (each-numbered (numberOf numbers) (loomsOf c) acts)
 
       matched : Matched (groupRules g .leading) (settingIn table states (loomsOf c) g)
           (after (entryOf table states) (loomsOf c) (groupRules g) machineActs (opening (c .start)))
@@ -159,7 +159,7 @@ module _ {table : List ℕ} {states operations : ℕ} {c : Certificate} {numbers
           (after (entryOf table states) (loomsOf c) (groupRules g) machineActs (opening q))
           (ran (settingIn table states (loomsOf c) g) machineActs (initial (settingIn table states (loomsOf c) g))))
           (rules-render .the-start)
-          (figure-two (entryOf table states) (loomsOf c) (groupRules g) machineActs filled-acts)
+          (figure-two (entryOf table states) (loomsOf c) (groupRules g) machineActs not-zero-acts)
 
       pictured : Pictured (loomsOf c) (historyAfter table states operations acts (untouched g))
           (after (entryOf table states) (loomsOf c) (groupRules g) machineActs (opening (c .start)))

@@ -22,20 +22,19 @@ use Rattle.recording.specs.AcceptedLaws.{sets-given, past-faults}
 use Rattle.loom.specs.declared.Side.{Side}
 use Rattle.loom.specs.declared.Side.the-variants.{A, B}
 use Rattle.loom.specs.declared.Loom.{Loom}
-use Rattle.agreement.specs.Machine.{Filled}
+use Rattle.agreement.specs.Machine.{NotZero}
 use Rattle.group.specs.declared.Numbers.{Numbers}
 use Rattle.group.specs.Group.{emptyLoom, numberOf}
 use Rattle.group.specs.Open.{loomOf, slotsOf, freshGroup, unopened, opened, setsFrom, openedBy, openOf}
 use Rattle.group.specs.OpenLaws.{slots-length, slot-of-seat}
 use Rattle.demands.specs.Fits.{Seated, WellFormed}
-use Rattle.demands.specs.RendersLaws.{AreSets}
-use Rattle.demands.specs.NewlyOpened.{NewlyOpened}
+use Rattle.demands.specs.NewlyOpened.{AreSets, NewlyOpened}
 
 -- What code 0 says of an opening: the check accepted, neither number is 0, and the group is as it opens.
 record Opens (j : Judged) (c : Certificate) (numbers : Numbers) : Type 0 where
   accepting : j .code ≡ 0
-  some-a : Filled (numbers .a)
-  some-b : Filled (numbers .b)
+  some-a : NotZero (numbers .a)
+  some-b : NotZero (numbers .b)
   fresh : openedBy j c numbers .group ≡ freshGroup c (setsFrom j) numbers
 
 opens : (j : Judged) (c : Certificate) (numbers : Numbers) → openedBy j c numbers .code ≡ 0 → Opens j c numbers
@@ -116,7 +115,7 @@ newly-opened table states operations c numbers room code =
     record {
       good = well-formed table states operations c room (made .accepting);
       recording = is-recording table states operations c room (made .accepting);
-      filled = both;
+      not-zero = both;
       seated = seated-fresh table states operations c room (made .accepting) numbers;
       sets = are-sets table states operations c room (made .accepting);
       start = refl;
@@ -130,6 +129,6 @@ newly-opened table states operations c numbers room code =
     made : Opens (judgedOf table states operations c room) c numbers
     made = opens (judgedOf table states operations c room) c numbers code
 
-    both : (s : Side) → Filled (numberOf numbers s)
+    both : (s : Side) → NotZero (numberOf numbers s)
     both A = made .some-a
     both B = made .some-b

@@ -2,19 +2,18 @@
 -- Assumes nothing.
 use Prim.Native.Nat.{ℕ, _<_}
 use mathlib.Core.Path.{_≡_}
-use mathlib.Core.List.{List, [], _∷_}
+use mathlib.Core.List.{List}
 use lib.Dec.{eqb}
 use lib.ListN.{length}
 use Rattle.recording.specs.declared.Seat.{Seat}
 use Rattle.recording.specs.Recording.{sideCount}
-use Rattle.loom.specs.declared.Side.{Side}
 use Rattle.loom.specs.Sides.{sideNumber}
 use Rattle.loom.specs.Turn.{Rules}
 use Rattle.loom.specs.Looms.{rulesOf}
-use Rattle.agreement.specs.Machine.{Act as MachineAct, step, restart, restartAll, State, sideOf}
+use Rattle.agreement.specs.Machine.{State}
 use Rattle.group.specs.declared.Sets.{Sets}
 use Rattle.group.specs.Group.{loomAt, setOf, yieldingOf, leadingOf}
-use Rattle.demands.specs.Acts.{Act, loomSteps, loomRestarts, allRestart, History}
+use Rattle.demands.specs.Acts.{History}
 
 -- The rules that looms in these seats go by, from the start and the two sets.
 abbrev pub rulesBy : List Seat → ℕ → Sets → Rules
@@ -25,17 +24,6 @@ rulesBy looms start sets =
       set = setOf sets (leadingOf start sets);
       alone = eqb (sideCount (sideNumber (yieldingOf start sets)) looms) 1;
     })
-
--- The same acts on the machine: each step brings the number of its loom's side.
-unfoldable pub numbered : (Side → ℕ) → List Seat → Act → MachineAct
-numbered num looms (loomSteps k) = step k (num (sideOf looms k))
-numbered num looms (loomRestarts k) = restart k
-numbered num looms allRestart = restartAll
-
--- All of them.
-unfoldable pub allNumbered : (Side → ℕ) → List Seat → List Act → List MachineAct
-allNumbered num looms [] = []
-allNumbered num looms (a ∷ acts) = numbered num looms a ∷ allNumbered num looms acts
 
 -- The same memory, the same place for each loom of the group, the same events.
 pub record Pictured (looms : List Seat) (h : History) (S : State) : Type 0 where

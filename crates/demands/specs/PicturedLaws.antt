@@ -35,7 +35,8 @@ use Rattle.demands.specs.Kept.{Kept}
 use Rattle.demands.specs.KeptLaws.{kept-by-act}
 use Rattle.demands.specs.Fits.{Seated, WellFormed, Fits}
 use Rattle.demands.specs.FitsLaws.{turnIn, shared-restarted-below, step-of-none, step-of-answered, step-of-unanswered, restart-of-none, restart-of-one, restart-of-all, fits-by-act}
-use Rattle.demands.specs.Pictured.{rulesBy, numbered, allNumbered, Pictured}
+use Rattle.demands.specs.Processes.{numbered, allNumbered}
+use Rattle.demands.specs.Pictured.{rulesBy, Pictured}
 
 -- A loom of the side is counted in either way.
 one-of-side : (n : ℕ) (s : Side) → n ≤ 1 → one (sameSide (sideFrom n) s) ≡ one (eqb n (sideNumber s))

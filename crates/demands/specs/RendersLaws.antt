@@ -7,7 +7,7 @@ use mathlib.Core.Logic.{_↔_}
 use mathlib.Core.List.{List}
 use lib.Dec.{eqb}
 use borrow.Author.Tests.{eq-eqb, eqb-true, eqb-false}
-use Rattle.sets.specs.Sets.{bit, hasOf}
+use Rattle.sets.specs.Sets.{hasOf}
 use Rattle.recording.specs.declared.Seat.{Seat}
 use Rattle.recording.specs.Recording.{InSet, Recording}
 use Rattle.loom.specs.declared.Side.{Side}
@@ -16,16 +16,13 @@ use Rattle.loom.specs.Sides.{sideNumber}
 use Rattle.loom.specs.SidesLaws.{other-other}
 use Rattle.agreement.specs.Fitted.{Renders}
 use Rattle.group.specs.declared.Sets.{Sets}
-use Rattle.group.specs.Group.{setOf, yieldingOf, leadingOf}
+use Rattle.group.specs.Group.{yieldingOf, leadingOf}
 use Rattle.demands.specs.Pictured.{rulesBy}
+use Rattle.demands.specs.NewlyOpened.{AreSets}
 
 -- A test for one number holds of that number alone.
 test-of-equal : (m n : ℕ) → (eqb m n ≡ true) ↔ (m ≡ n)
 test-of-equal m n = (eqb-true m n, eq-eqb m n)
-
--- The two sets are Q_A and Q_B.
-abbrev pub AreSets : (ℕ → ℕ → ℕ) → List Seat → ℕ → Sets → Type 0
-AreSets next looms start sets = (s : Side) (q : ℕ) → (bit (setOf sets s) q ≡ 1) ↔ InSet next looms start (sideNumber s) q
 
 module _ (next : ℕ → ℕ → ℕ) (looms : List Seat) (start : ℕ) (sets : Sets) (are : AreSets next looms start sets) (recording : Recording next looms start) where
   -- The start is not in the set of the yielding side: A yields only where the start is in the set of B, and no state is in both.

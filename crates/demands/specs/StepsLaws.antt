@@ -26,7 +26,7 @@ use Rattle.group.specs.Step.{stepOf, restartOf, restartAllOf}
 use Rattle.demands.specs.Acts.{Act, loomSteps, loomRestarts, allRestart, History, actedOn, historyAfter}
 use Rattle.demands.specs.Fits.{WellFormed, Fits}
 use Rattle.demands.specs.FitsLaws.{turnIn, step-of-none, step-of-answered, step-of-unanswered, restart-of-none, restart-of-one, restart-of-all, fits-by-act}
-use Rattle.demands.specs.Pictured.{numbered, allNumbered}
+use Rattle.demands.specs.Processes.{numbered, allNumbered}
 use Rattle.demands.specs.Steps.{stepsOf, Unrestarted}
 
 -- The steps of loom k are the same among the machine's acts.

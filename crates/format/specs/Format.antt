@@ -21,9 +21,16 @@ use Rattle.format.specs.declared.Items.the-variants.{Entries, Looms, Act
 abbrev pub exactly : ℕ → ℕ → Bool
 exactly n = within n (n + 1)
 
+-- From this entry on, an entry is a restart of a loom; and the entry that is a restart of all.
+abbrev pub firstRestart : ℕ
+firstRestart = 16
+
+abbrev pub entryOfAll : ℕ
+entryOfAll = 32
+
 -- "Entry k is a step of loom k, 16 + k a restart of loom k, 32 a restart of all": an entry that names an act of a group of so many looms.
 unfoldable pub namesAct : ℕ → ℕ → Bool
-namesAct looms v = ltb v looms || (within 16 (16 + looms) v || eqb v 32)
+namesAct looms v = ltb v looms || (within firstRestart (firstRestart + looms) v || eqb v entryOfAll)
 
 -- One item of a counted array.
 --   5, an entry not below states
@@ -76,9 +83,13 @@ certificateOf L s P =
 abbrev pub numberAt : List ℕ → ℕ → Field
 numberAt s p = fieldAt (within 1 (2 ^ 32)) 10 s p
 
--- 11, a label over the limit, or with a byte outside 32 to 126: "an opaque's length is one field, its bytes with padding the next".
+-- "Bytes 32 to 126": those that a label is made of.
+abbrev pub printing : ℕ → Bool
+printing = within 32 127
+
+-- 11, a label over the limit, or with a byte that is none of these: "an opaque's length is one field, its bytes with padding the next".
 unfoldable pub labelAt : Limits → List ℕ → ℕ → Field
-labelAt L s p = andThen (fieldAt (within 0 (L .label + 1)) 11 s p) (opaqueAt (within 32 127) 11 s (wordAt s p) (p + 4))
+labelAt L s p = andThen (fieldAt (within 0 (L .label + 1)) 11 s p) (opaqueAt printing 11 s (wordAt s p) (p + 4))
 
 -- The numbers and the labels of the two sides.
 unfoldable pub piecesOf : Limits → List ℕ → Plan → Field

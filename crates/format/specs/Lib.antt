@@ -1,4 +1,4 @@
-pub mod Accepted
+pub mod AcceptedLaws
 pub mod CodedLaws
 pub mod Format
 pub mod FormatLaws

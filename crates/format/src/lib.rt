@@ -10,6 +10,12 @@ ghost use Rattle.format.specs.Layout.{Small, planOf};
 ghost use Rattle.format.specs.Format.{itemAt, widthOf, namesAct, runOf, seatsAt, sidesAt, headOf, certificateOf, piecesOf, labelAt, scheduleOf, judgedBy, judgementOf};
 use xdr::Field;
 
+// From this entry of a schedule on, an entry is a restart of a loom.
+const RESTART: usize = 16;
+
+// The entry that is a restart of all.
+const ALL: usize = 32;
+
 // Where the parts of a file begin and how long they are, as its words say.
 pub struct Plan {
     pub states: usize,
@@ -72,13 +78,13 @@ fn names_act(looms: usize, value: usize) -> bool
     if value < looms {
         return true;
     }
-    if value < 16 {
+    if value < RESTART {
         return false;
     }
-    if value - 16 < looms {
+    if value - RESTART < looms {
         return true;
     }
-    value == 32
+    value == ALL
 }
 
 // A schedule's entry: refused with 13 where it names no act, or no loom of the group.

@@ -16,10 +16,6 @@ returned o = record { code = o .code; said = o .said; loom = o .loom }
 abbrev pub left : Outcome → Shared
 left o = o .shared
 
--- The two parts together.
-abbrev pub together : Lent → Shared → Outcome
-together r m = record { code = r .code; said = r .said; shared = m; loom = r .loom }
-
 -- "Each step hands the loom back": the answer of a step of the loom l on the record m, lent.
 abbrev pub returnedOf : Rules → ℕ → List ℕ → ℕ → ℕ → Shared → Loom → Lent
 returnedOf R v table states operations m l = returned (stepOnOf R v table states operations m l)

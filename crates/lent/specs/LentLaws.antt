@@ -10,8 +10,14 @@ use Rattle.loom.specs.declared.Turned.{Turned}
 use Rattle.loom.specs.Turn.{Rules, hasAnswered}
 use Rattle.cell.specs.Table.{entryOf}
 use Rattle.loom.specs.Looms.{turnedOf}
+use Rattle.group.specs.declared.Outcome.{Outcome}
 use Rattle.group.specs.Step.{isUnfit, unmoved, taken, stepOnOf}
-use Rattle.lent.specs.Lent.{left, together, returnedOf, leftOf}
+use Rattle.lent.specs.declared.Lent.{Lent}
+use Rattle.lent.specs.Lent.{left, returnedOf, leftOf}
+
+-- What is handed back and what stays in the record, together.
+abbrev pub together : Lent → Shared → Outcome
+together r m = record { code = r .code; said = r .said; shared = m; loom = r .loom }
 
 -- Of an outcome chosen among two refusals and a turn: a code other than 0 is a refusal's.
 refused-is-unmoved : (unfit answered : Bool) (m : Shared) (l : Loom) (t : Turned) →

@@ -6,12 +6,12 @@ use mathlib.Core.Path.{_≡_, refl}
 use mathlib.Core.List.{List}
 use lib.ListN.{length}
 use Rattle.cell.specs.Limits.{Limits, edition}
-use Rattle.xdr.specs.FieldLaws.{Passed}
+use Rattle.xdr.specs.Field.{Passed}
 use Rattle.xdr.specs.Opaque.{padOf, padded}
 use Rattle.xdr.specs.OpaqueLaws.{padded-grows}
 use Rattle.format.specs.Layout.{planOf}
 use Rattle.format.specs.Format.{verdictOf}
-use Rattle.format.specs.Accepted.{verdict-bounds}
+use Rattle.format.specs.AcceptedLaws.{verdict-bounds}
 
 -- The most bytes that the parts of a file can have.
 abbrev pub longestOf : Limits → ℕ

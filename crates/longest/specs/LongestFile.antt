@@ -11,15 +11,15 @@ use lib.Seq.{getD-append-add}
 use borrow.Author.Tests.{le-leb}
 use Rattle.cell.specs.Limits.{edition}
 use Rattle.xdr.specs.declared.Field.the-variants.{Is}
-use Rattle.xdr.specs.Field.{wordAt, within, fieldAt, run}
-use Rattle.xdr.specs.FieldLaws.{Passed, word-inside, field-takes, run-takes, end-takes}
+use Rattle.xdr.specs.Field.{wordAt, within, fieldAt, Passed, run}
+use Rattle.xdr.specs.FieldLaws.{word-inside, field-takes, run-takes, end-takes}
 use Rattle.xdr.specs.Opaque.{padOf, all, opaqueAt}
 use Rattle.format.specs.declared.Plan.{Plan}
 use Rattle.format.specs.declared.Items.the-variants.{Entries, Acts}
 use Rattle.format.specs.Layout.{planOf}
 use Rattle.format.specs.LayoutLaws.{plan-is}
 use Rattle.format.specs.Format.{namesAct, itemAt, runOf, seatsAt, sidesAt, labelAt, verdictOf}
-use Rattle.format.specs.Accepted.{Passes, file-takes}
+use Rattle.format.specs.AcceptedLaws.{Passes, file-takes}
 
 -- The words before the table, those after it to the schedule's entries.
 abbrev head : List ℕ

@@ -1,4 +1,4 @@
--- The document's numbers for what is an enum here: sides and places are in Sides; this is the way back, and what a step says.
+-- The document's numbers for what is an enum here: places, and what a step says. A side's number is in Sides.
 -- Assumes nothing.
 use Prim.Native.Nat.{ℕ}
 use mathlib.Core.Bool.{cond}
@@ -8,6 +8,18 @@ use Rattle.loom.specs.declared.Place.{Place}
 use Rattle.loom.specs.declared.Place.the-variants.{Begin, Posted, Looking, Ready, Applied, Bound, Answered}
 use Rattle.loom.specs.declared.Said.{Said}
 use Rattle.loom.specs.declared.Said.the-variants.{Nothing, Application, Answer}
+
+-- The number of a place, in the order of the table; a side that it carries counts A before B (document 02, No. 12).
+abbrev pub placeNumber : Place → ℕ
+placeNumber Begin = 0
+placeNumber Posted = 1
+placeNumber Looking = 2
+placeNumber Ready = 3
+placeNumber Applied = 4
+placeNumber (Bound A) = 5
+placeNumber (Bound B) = 6
+placeNumber (Answered A) = 7
+placeNumber (Answered B) = 8
 
 -- The place of a number: "begin, posted, looking, ready, applied, bound to A, bound to B, answered A, answered B" (document 02,
 -- No. 12). No place has a number above 8: there it is the last.

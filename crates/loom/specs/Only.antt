@@ -11,10 +11,10 @@ use Rattle.loom.specs.declared.Lead.{Lead}
 use Rattle.loom.specs.declared.Shared.{Shared}
 use Rattle.loom.specs.declared.Said.{Said}
 use Rattle.loom.specs.declared.Turned.{Turned}
-use Rattle.loom.specs.Sides.{sideNumber, sideFrom, other, sameSide, placeNumber, register, withRegister, withCell}
+use Rattle.loom.specs.Sides.{sideNumber, sideFrom, other, sameSide, register, withRegister, withCell}
 use Rattle.loom.specs.Turn.{decided, looks, afterPosted, afterLooking}
 use Rattle.loom.specs.Looms.{movedTo, restartedOf, rulesOf, turnedOf}
-use Rattle.loom.specs.Numbers.{placeFrom, saidNumber, saidApplied, saidPiece}
+use Rattle.loom.specs.Numbers.{placeNumber, placeFrom, saidNumber, saidApplied, saidPiece}
 
 pub side-only-other : (self r s : Side) → r ≡ other self → s ≡ other self → r ≡ s
 side-only-other self r s p q = p ∙ sym q

@@ -1,11 +1,9 @@
--- Sides, places and the shared memory: document 01, "One loom's steps".
+-- Sides and the shared memory: document 01, "One loom's steps".
 -- Assumes nothing.
 use Prim.Native.Nat.{ℕ, zero, suc}
 use mathlib.Core.Bool.{Bool, true, false}
 use Rattle.loom.specs.declared.Side.{Side}
 use Rattle.loom.specs.declared.Side.the-variants.{A, B}
-use Rattle.loom.specs.declared.Place.{Place}
-use Rattle.loom.specs.declared.Place.the-variants.{Begin, Posted, Looking, Ready, Applied, Bound, Answered}
 use Rattle.loom.specs.declared.Shared.{Shared}
 
 -- "A side (0 for A, 1 for B)."
@@ -29,18 +27,6 @@ sameSide A A = true
 sameSide A B = false
 sameSide B A = false
 sameSide B B = true
-
--- The number of a place, in the order of the table; a side that it carries counts A before B (document 02, No. 12).
-abbrev pub placeNumber : Place → ℕ
-placeNumber Begin = 0
-placeNumber Posted = 1
-placeNumber Looking = 2
-placeNumber Ready = 3
-placeNumber Applied = 4
-placeNumber (Bound A) = 5
-placeNumber (Bound B) = 6
-placeNumber (Answered A) = 7
-placeNumber (Answered B) = 8
 
 -- The register of a side.
 abbrev pub register : Shared → Side → ℕ

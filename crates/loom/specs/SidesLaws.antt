@@ -12,8 +12,8 @@ use Rattle.loom.specs.declared.Side.the-variants.{A, B}
 use Rattle.loom.specs.declared.Place.{Place}
 use Rattle.loom.specs.declared.Place.the-variants.{Begin, Posted, Looking, Ready, Applied, Bound, Answered}
 use Rattle.loom.specs.declared.Shared.{Shared}
-use Rattle.loom.specs.Sides.{sideNumber, sideFrom, placeNumber, other, sameSide, register, withRegister, withCell}
-use Rattle.loom.specs.Numbers.{placeFrom}
+use Rattle.loom.specs.Sides.{sideNumber, sideFrom, other, sameSide, register, withRegister, withCell}
+use Rattle.loom.specs.Numbers.{placeNumber, placeFrom}
 
 -- Any side number but 0 is B's.
 pub side-of-positive : (n : ℕ) → (n ≡ 0 → ⊥) → sideFrom n ≡ B

@@ -1,9 +1,9 @@
 // A loom, its place in one round, and the memory that the looms of a group share.
 ghost use mathlib.Core.Path.{_≡_};
-ghost use Rattle.loom.specs.Sides.{sideNumber, sideFrom, other, sameSide, placeNumber, register, withRegister, withCell};
+ghost use Rattle.loom.specs.Sides.{sideNumber, sideFrom, other, sameSide, register, withRegister, withCell};
 ghost use Rattle.loom.specs.Turn.{decided, looks, afterPosted, afterLooking};
 ghost use Rattle.loom.specs.Looms.{counted, standing, movedTo, restartedOf, rulesOf, turnedOf};
-ghost use Rattle.loom.specs.Numbers.{placeFrom, saidNumber, saidApplied, saidPiece};
+ghost use Rattle.loom.specs.Numbers.{placeNumber, placeFrom, saidNumber, saidApplied, saidPiece};
 
 // The two sides of the aisle.
 pub enum Side {

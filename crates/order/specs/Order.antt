@@ -6,7 +6,7 @@ use mathlib.Core.Bool.{cond, _&&_}
 use mathlib.Core.List.{List, [], _∷_, _++_}
 use lib.Dec.{leb}
 use lib.ListN.{length, drop, replicate}
-use Rattle.cell.specs.Limits.{Limits}
+use Rattle.cell.specs.Limits.{Limits, edition}
 use Rattle.recording.specs.Recording.{emptySeat}
 use Rattle.recording.specs.declared.Seat.{Seat}
 use Rattle.xdr.specs.declared.Field.{Field}
@@ -31,11 +31,11 @@ unfoldable pub wordsAt : List ℕ → ℕ → ℕ → List ℕ
 wordsAt s zero p = []
 wordsAt s (suc n) p = wordAt s p ∷ wordsAt s n (p + 4)
 
--- Eight empty seats.
+-- Empty seats, as many as the most looms.
 abbrev pub noSeats : List Seat
-noSeats = replicate 8 emptySeat
+noSeats = replicate (edition .looms) emptySeat
 
--- A certificate's eight seats: those of the n looms from p on, and empty ones beyond.
+-- A certificate's seats: those of the n looms from p on, and empty ones beyond.
 unfoldable pub seatsOf : List ℕ → ℕ → ℕ → List Seat
 seatsOf s n p = seatsAt s n p ++ drop n noSeats
 

@@ -10,7 +10,7 @@ use Rattle.xdr.specs.declared.Field.the-variants.{Is}
 use Rattle.format.specs.declared.Plan.{Plan}
 use Rattle.format.specs.Layout.{planOf}
 use Rattle.format.specs.Format.{verdictOf}
-use Rattle.format.specs.Accepted.{Bounds, verdict-bounds}
+use Rattle.format.specs.AcceptedLaws.{Bounds, verdict-bounds}
 use Rattle.order.specs.declared.Order.{Order}
 use Rattle.order.specs.Order.{tableRoom, acceptedOf, ReadsTo}
 use Rattle.order.specs.OrderLaws.{lowsAt, words-low, rooms-suffice, accepted-reads}

@@ -21,11 +21,11 @@ use Rattle.recording.specs.CheckLaws.{fault-looms, fault-none}
 use Rattle.recording.specs.Recording.{sideCount}
 use Rattle.xdr.specs.declared.Field.{Field}
 use Rattle.xdr.specs.declared.Field.the-variants.{Is, Not}
-use Rattle.xdr.specs.Field.{wordAt, within, fieldAt}
-use Rattle.xdr.specs.FieldLaws.{Passed, then-both, run-taken, judged-taken}
+use Rattle.xdr.specs.Field.{Passed, wordAt, within, fieldAt}
+use Rattle.xdr.specs.FieldLaws.{then-both, run-taken, judged-taken}
 use Rattle.format.specs.declared.Plan.{Plan}
 use Rattle.format.specs.declared.Items.the-variants.{Looms}
-use Rattle.format.specs.Accepted.{Passes, Bounds, limits, bounds, file-taken}
+use Rattle.format.specs.AcceptedLaws.{Passes, Bounds, limits, bounds, file-taken}
 use Rattle.format.specs.CodedLaws.{Coded, refused, verdict-coded}
 use Rattle.format.specs.Format.{itemAt, seatAt, seatsAt, sidesAt, verdictOf}
 use Rattle.format.specs.Layout.{planOf}

@@ -14,7 +14,7 @@ use recording::Seat;
 use xdr::Field;
 
 // The most entries that a table has.
-pub const TABLE: usize = 1024;
+pub const TABLE: usize = cell::STATES * cell::OPERATIONS;
 
 // A side's piece: its number, and where its label's bytes lie in the file.
 pub struct Piece {

@@ -6,7 +6,7 @@ use Rattle.cell.specs.Catalogue.{tableOf}
 use Rattle.cell.specs.Limits.{edition}
 use Rattle.recording.specs.declared.Certificate.{Certificate}
 use Rattle.recording.specs.CatalogueCertificate.{CatalogueCertificate}
-use Rattle.recording.specs.CatalogueSets.{recorded, size-of-A, size-of-B}
+use Rattle.recording.specs.CatalogueSetsLaws.{recorded, size-of-A, size-of-B}
 use Rattle.recording.specs.Check.{roomFor, sizesOf, checkOf, checked}
 
 pub catalogue-accepted : (n : ℕ) → 2 ≤ n → n ≤ edition .looms → (c : Certificate) → CatalogueCertificate n c → (room : ℕ) → roomFor n ≤ room →

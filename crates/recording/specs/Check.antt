@@ -15,7 +15,6 @@ use Rattle.recording.specs.declared.Seat.{Seat}
 use Rattle.recording.specs.declared.Certificate.{Certificate}
 use Rattle.recording.specs.declared.Judged.{Judged}
 use Rattle.recording.specs.declared.Checked.{Checked}
-use Rattle.recording.specs.declared.Filled.{Filled}
 use Rattle.recording.specs.Recording.{sideCount}
 use Rattle.recording.specs.Words.{filled, setOf}
 
@@ -79,13 +78,6 @@ verdictOn c a b = verdictOf (c .start) (sideCount 0 (loomsOf c)) (sideCount 1 (l
 -- The set of side X, by a certificate over a table.
 abbrev pub setBy : List ℕ → ℕ → Certificate → ℕ → ℕ
 setBy table states c X = setOf (entryOf table states) (loomsOf c) states (c .start) X
-
--- The two sets.
-abbrev pub filledSets : ℕ → ℕ → Filled
-filledSets a b = record { a = a; b = b }
-
-abbrev pub setsBy : List ℕ → ℕ → Certificate → Filled
-setsBy table states c = filledSets (setBy table states c 0) (setBy table states c 1)
 
 -- The fault where there is one, with no sets; else the verdict.
 abbrev pub judgedBy : Formed → Judged → Judged

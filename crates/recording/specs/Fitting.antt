@@ -1,5 +1,5 @@
 -- What the check's code goes by once a certificate is past 2 to 9: its looms' lookups are never refused. And the words of `Words`, by a
--- table and the looms' seats.
+-- table and the looms' seats, and the two sets.
 -- Assumes nothing.
 use Prim.Native.Nat.{ℕ, _-_, _^_, _≤_, _<_}
 use mathlib.Core.Path.{_≡_}
@@ -12,8 +12,11 @@ use Rattle.cell.specs.Limits.{edition}
 use Rattle.cell.specs.Table.{entryOf, nextOf}
 use Rattle.recording.specs.declared.Columns.{Columns}
 use Rattle.recording.specs.declared.Seat.{Seat}
+use Rattle.recording.specs.declared.Certificate.{Certificate}
+use Rattle.recording.specs.declared.Filled.{Filled}
 use Rattle.recording.specs.Recording.{operationAt}
 use Rattle.recording.specs.Words.{advanced, wordFrom, filled}
+use Rattle.recording.specs.Check.{setBy}
 
 -- The lookup of this operation is not refused in any state, and leads to a state.
 pub record Steps (table : List ℕ) (states operation : ℕ) : Type 0 where
@@ -50,10 +53,17 @@ wordsTo table states looms start X m = filled (entryOf table states) looms state
 abbrev pub wordBy : List ℕ → ℕ → List Seat → ℕ → ℕ → List ℕ → ℕ → ℕ → ℕ
 wordBy table states looms start X earlier m k = wordFrom (entryOf table states) looms states start X earlier m k
 
--- What a loom adds as the first of an order, and as the last of one: `lone` is the set of that loom alone.
+-- What a loom adds as the first of a sequence, and as the last of one: `lone` is the set of that loom alone.
 abbrev pub firstIn : List ℕ → ℕ → Seat → ℕ → ℕ → ℕ
 firstIn table states l X start = cond (eqb (l .side) X) (2 ^ entryOf table states (l .operation) start) 0
 
 abbrev pub addedBy : List ℕ → ℕ → Seat → ℕ → ℕ → List ℕ → ℕ → ℕ → ℕ
 addedBy table states l start X earlier m lone =
     cond (eqb m lone) (firstIn table states l X start) (advanced (entryOf table states (l .operation)) (getD earlier (m - lone) 0) states)
+
+-- The two sets, as the fill hands them back.
+abbrev pub filledSets : ℕ → ℕ → Filled
+filledSets a b = record { a = a; b = b }
+
+abbrev pub setsBy : List ℕ → ℕ → Certificate → Filled
+setsBy table states c = filledSets (setBy table states c 0) (setBy table states c 1)

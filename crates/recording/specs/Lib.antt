@@ -5,8 +5,8 @@ pub mod AreaHolds
 pub mod AreaLaws
 pub mod CatalogueAccepted
 pub mod CatalogueCertificate
-pub mod CatalogueOrders
-pub mod CatalogueSets
+pub mod CatalogueOrdersLaws
+pub mod CatalogueSetsLaws
 pub mod Check
 pub mod CheckLaws
 pub mod Clauses

@@ -41,7 +41,7 @@ FirstIs looms X [] = ⊥
 FirstIs looms X (u ∷ us) = sideAt looms u ≡ X
 
 -- "One or more distinct looms, each once, in some order, the first of them a loom of X."
-pub record Order (looms : List Seat) (X : ℕ) (us : List ℕ) : Type 0 where
+pub record Sequence (looms : List Seat) (X : ℕ) (us : List ℕ) : Type 0 where
   pub looms-of-it : (k : ℕ) → length looms ≤ k → times k us ≡ 0
   pub each-once : (k : ℕ) → times k us ≤ 1
   pub first-of-X : FirstIs looms X us
@@ -55,7 +55,7 @@ reached next looms q (u ∷ us) = reached next looms (next (operationAt looms u)
 -- Q_X: "every state reached from the start by applying the operations of one or more distinct looms, each once, in some order, the
 -- first of them a loom of X."
 abbrev pub InSet : (ℕ → ℕ → ℕ) → List Seat → ℕ → ℕ → ℕ → Type 0
-InSet next looms start X q = (us : List ℕ) × Order looms X us × (reached next looms start us ≡ q)
+InSet next looms start X q = (us : List ℕ) × Sequence looms X us × (reached next looms start us ≡ q)
 
 -- Definition 4, for this start, these sides and these operations.
 pub record Recording (next : ℕ → ℕ → ℕ) (looms : List Seat) (start : ℕ) : Type 0 where

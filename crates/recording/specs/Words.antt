@@ -61,9 +61,9 @@ module _ (next : ℕ → ℕ → ℕ) (looms : List Seat) (states start X : ℕ)
   setOf = unionOf 0 (filled (2 ^ length looms))
 
 -- What word m is to hold: "the states reached by applying exactly the looms whose bits are in m, each once, [a loom of X] first".
-pub record OrderOf (looms : List Seat) (X m : ℕ) (us : List ℕ) : Type 0 where
+pub record SequenceOf (looms : List Seat) (X m : ℕ) (us : List ℕ) : Type 0 where
   pub looms-of-m : (j : ℕ) → times j us ≡ bit m j
   pub first-of-X : FirstIs looms X us
 
 abbrev pub ReachedBy : (ℕ → ℕ → ℕ) → List Seat → ℕ → ℕ → ℕ → ℕ → Type 0
-ReachedBy next looms start X m q = (us : List ℕ) × OrderOf looms X m us × (reached next looms start us ≡ q)
+ReachedBy next looms start X m q = (us : List ℕ) × SequenceOf looms X m us × (reached next looms start us ≡ q)

@@ -24,7 +24,7 @@ use Rattle.recording.specs.declared.Seat.{Seat}
 use Rattle.recording.specs.UnionLaws.{in-union, union-first, union-second, in-single, empty-has-none, member-below, union-below, single-below}
 use Rattle.recording.specs.OrdersLaws.{single-digits, single-within, without, alone, times-end, reached-end, first-end, last-loom}
 use Rattle.recording.specs.Recording.{operationAt, sideAt, one, times, FirstIs, reached}
-use Rattle.recording.specs.Words.{withIf, advanced, firstBy, lastBy, wordFrom, filled, OrderOf, ReachedBy}
+use Rattle.recording.specs.Words.{withIf, advanced, firstBy, lastBy, wordFrom, filled, SequenceOf, ReachedBy}
 
 -- ---- a set moved by an operation
 -- q is where a member of the set, below k, moves to.
@@ -291,10 +291,10 @@ module _ (next : ℕ → ℕ → ℕ) (looms : List Seat) (states start X : ℕ)
         (rw (earlier-word m j has) there))
 
     Complete : ℕ → Type 0
-    Complete m = m < 2 ^ length looms → (us : List ℕ) → OrderOf looms X m us → bit (wordAt m) (reached next looms start us) ≡ 1
+    Complete m = m < 2 ^ length looms → (us : List ℕ) → SequenceOf looms X m us → bit (wordAt m) (reached next looms start us) ≡ 1
 
     complete-end : (m : ℕ) → ((k : ℕ) → k < m → Complete k) → m < 2 ^ length looms
-        → (vs : List ℕ) (v : ℕ) → OrderOf looms X m (vs ++ (v ∷ [])) → bit (wordAt m) (reached next looms start (vs ++ (v ∷ []))) ≡ 1
+        → (vs : List ℕ) (v : ℕ) → SequenceOf looms X m (vs ++ (v ∷ [])) → bit (wordAt m) (reached next looms start (vs ++ (v ∷ []))) ≡ 1
     unfolding Complete
     complete-end m before small [] v order =
         complete-first m v (member-below (length looms) m v small (last-in m [] v (order .looms-of-m))) (order .first-of-X)
@@ -314,8 +314,8 @@ module _ (next : ℕ → ℕ → ℕ) (looms : List Seat) (states start X : ℕ)
     complete-step m before small (u ∷ us) order =
         let last = last-loom u us in
         subst (λ (l : List ℕ). bit (wordAt m) (reached next looms start l) ≡ 1) (sym (last .2))
-        (complete-end m before small (last .0) (last .1) (subst (OrderOf looms X m) (last .2) order))
+        (complete-end m before small (last .0) (last .1) (subst (SequenceOf looms X m) (last .2) order))
 
-    pub word-complete : (m : ℕ) → m < 2 ^ length looms → (us : List ℕ) → OrderOf looms X m us → bit (wordAt m) (reached next looms start us) ≡ 1
+    pub word-complete : (m : ℕ) → m < 2 ^ length looms → (us : List ℕ) → SequenceOf looms X m us → bit (wordAt m) (reached next looms start us) ≡ 1
     unfolding Complete
     word-complete = by-less Complete complete-step

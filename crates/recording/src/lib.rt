@@ -9,8 +9,8 @@ ghost use Rattle.cell.specs.Table.{entryOf};
 ghost use Rattle.cell.specs.Limits.{edition};
 ghost use Rattle.recording.specs.Recording.{one, sideCount};
 ghost use Rattle.recording.specs.Words.{advanced, unionOf};
-ghost use Rattle.recording.specs.Check.{loomsOf, misfitOf, firstMisfit, loomsFault, faultOf, comesBack, roomFor, verdictOf, verdictOn, setsBy, wordsOver, Judges, Checks};
-ghost use Rattle.recording.specs.Fitting.{Steps, Fitting, seatsOf, columnsOf, wordsTo, wordBy, addedBy, firstIn};
+ghost use Rattle.recording.specs.Check.{loomsOf, misfitOf, firstMisfit, loomsFault, faultOf, comesBack, roomFor, verdictOf, verdictOn, wordsOver, Judges, Checks};
+ghost use Rattle.recording.specs.Fitting.{Steps, Fitting, seatsOf, columnsOf, wordsTo, wordBy, addedBy, firstIn, setsBy};
 use cell::Formed;
 use cell::Moved;
 

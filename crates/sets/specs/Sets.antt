@@ -12,6 +12,10 @@ use lib.ListN.{length, getD}
 unfoldable pub bit : ℕ → ℕ → ℕ
 bit w q = w / 2 ^ q % 2
 
+-- The digits of a word.
+abbrev pub wordBits : ℕ
+wordBits = 64
+
 -- State q is in the set w.
 abbrev pub Member : ℕ → ℕ → Type 0
 Member w q = bit w q ≡ 1
@@ -37,10 +41,6 @@ sizeOf k w = length (members k w)
 -- "The lowest shared state is the count of zeros below the lowest one": the least member of w below k, and k where there is none.
 unfoldable pub lowestOf : ℕ → ℕ → ℕ
 lowestOf k w = getD (members k w) 0 k
-
--- The digits of a word.
-abbrev pub wordBits : ℕ
-wordBits = 64
 
 -- r holds the states of a and those of b, and no other.
 unfoldable pub Union : ℕ → ℕ → ℕ → Type 0

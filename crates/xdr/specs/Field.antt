@@ -1,6 +1,7 @@
 -- Positions, words and fields of an XDR file: document 01, "The order file" and "Codes and their order".
 -- Assumes nothing.
 use Prim.Native.Nat.{ℕ, zero, suc, _+_, _*_}
+use mathlib.Core.Path.{_≡_}
 use mathlib.Core.Bool.{Bool, cond, _&&_}
 use mathlib.Core.List.{List}
 use lib.Dec.{leb, ltb}
@@ -32,6 +33,10 @@ judged reaches passes v code p = cond reaches (cond passes (Is v) (Not code p)) 
 -- The word at position p as a field whose value has to pass a test.
 unfoldable pub fieldAt : (ℕ → Bool) → ℕ → List ℕ → ℕ → Field
 fieldAt ok code s p = judged (wordFits s p) (ok (wordAt s p)) (wordAt s p) code p
+
+-- A field is taken, whatever it gives.
+abbrev pub Passed : Field → Type 0
+Passed f = (v : ℕ) × (f ≡ Is v)
 
 -- "The fields in file order": the first refusal; with none, what the last field gives.
 abbrev pub andThen : Field → Field → Field

@@ -12,7 +12,7 @@ use lib.ListN.{length, getD}
 use borrow.Author.Tests.{leb-true, ltb-true, le-leb, lt-leb, lt-ltb, le-ltb}
 use Rattle.xdr.specs.declared.Field.{Field}
 use Rattle.xdr.specs.declared.Field.the-variants.{Is, Not}
-use Rattle.xdr.specs.Field.{joined, wordFits, wordAt, within, judged, fieldAt, andThen, run, endAt}
+use Rattle.xdr.specs.Field.{joined, wordFits, wordAt, within, judged, fieldAt, Passed, andThen, run, endAt}
 
 -- The word at a position within the file, and past its end.
 pub word-inside : (s : List ℕ) (p : ℕ) → p + 4 ≤ length s
@@ -94,10 +94,6 @@ module _ (low end code : ℕ) (s : List ℕ) (p v : ℕ) (f : wordFits s p ≡ t
 
   pub limits-refuse : within low end v ≡ false → Not code p ≡ fieldAt (within low end) code s p
   limits-refuse h = sym (field-refuses (within low end) code s p f (ap (within low end) (sym e) ∙ h))
-
--- A field is taken, whatever it gives.
-abbrev pub Passed : Field → Type 0
-Passed f = (v : ℕ) × (f ≡ Is v)
 
 -- Of two fields in a row both are taken, or the first refusal is given.
 pub then-takes : (f g : Field) (v : ℕ) → f ≡ Is v → andThen f g ≡ g

@@ -57,7 +57,8 @@ use Rattle.group.specs.Step.{stepOnOf}
 use Rattle.group.proofs.Outcome as R
 use Rattle.group.proofs.Outcome.Laws as R′
 use Rattle.lent.specs.declared.Lent.{Lent}
-use Rattle.lent.specs.Lent.{returned, left, together}
+use Rattle.lent.specs.Lent.{returned, left}
+use Rattle.lent.specs.LentLaws.{together}
 use Rattle.lent.proofs.Passed.{Passed, passed-vals, shared-vals, lead-vals, loom-vals, table-val, PassedTypes, Table, Facts, table-twice, owned-again}
 use Rattle.lent.proofs.Lent as T
 use Rattle.lent.proofs.Lent.Laws as T′

@@ -8,9 +8,9 @@ use native.Mathlib.Omega.{arith}
 use lib.ListN.{length, take, drop, length-take}
 use Rattle.cell.specs.Limits.{edition}
 use Rattle.recording.specs.declared.Seat.{Seat}
-use Rattle.recording.specs.Check.{filledSets, loomsOf}
+use Rattle.recording.specs.Check.{loomsOf}
 use Rattle.recording.specs.FillLaws.{words-length, two-parts, set-is}
-use Rattle.recording.specs.Fitting.{Fitting, seatsOf, wordsTo}
+use Rattle.recording.specs.Fitting.{Fitting, seatsOf, wordsTo, filledSets}
 use Rattle.recording.specs.FittingLaws.{rows-are-looms, sides-as-many, operations-as-many}
 use Rattle.recording.specs.Words.{unionOf}
 use Rattle.recording.proofs.fill_both.Statement.{statement}

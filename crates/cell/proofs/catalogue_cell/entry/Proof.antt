@@ -2,7 +2,7 @@
 -- Assumes nothing.
 use borrow.Author.Needs.{needs}
 use borrow.Author.Tests.{lt-ltb, le-ltb}
-use Rattle.cell.specs.Catalogue.{entryAt}
+use Rattle.cell.specs.CatalogueLaws.{entryAt}
 use Rattle.cell.proofs.catalogue_cell.entry.Statement.{statement}
 use Rattle.cell.proofs.catalogue_cell.entry.Tie as tie
 

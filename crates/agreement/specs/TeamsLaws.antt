@@ -8,7 +8,7 @@ use mathlib.Core.Logic.{_⊎_, inl, inr}
 use mathlib.Core.List.{List, [], _∷_, _++_}
 use lib.ListN.{length}
 use Rattle.recording.specs.declared.Seat.{Seat}
-use Rattle.recording.specs.Recording.{sideAt, operationAt, sideCount, times, Order, reached, InSet}
+use Rattle.recording.specs.Recording.{sideAt, operationAt, sideCount, times, Sequence, reached, InSet}
 use Rattle.loom.specs.declared.Side.{Side}
 use Rattle.loom.specs.declared.Side.the-variants.{A, B}
 use Rattle.loom.specs.Sides.{sideNumber, sideFrom, other}
@@ -16,7 +16,7 @@ use Rattle.loom.specs.SidesLaws.{side-of-number, same-or-other, number-of-side}
 use Rattle.loom.specs.Turn.{Rules, decided}
 use Rattle.agreement.specs.Machine.{sideOf}
 use Rattle.agreement.specs.Fitted.{Fitted}
-use Rattle.agreement.specs.Orders.{order-of-one, order-of-one-more, reached-by-one-more, loom-of-order, lone}
+use Rattle.agreement.specs.OrdersLaws.{order-of-one, order-of-one-more, reached-by-one-more, loom-of-order, lone}
 
 module _ {next : ℕ → ℕ → ℕ} {looms : List Seat} {start : ℕ} {R : Rules} (given : Fitted next looms start R) where
   -- Loom k's number for its side.
@@ -36,7 +36,7 @@ module _ {next : ℕ → ℕ → ℕ} {looms : List Seat} {start : ℕ} {R : Rul
   -- Lemma 7. If the start isn't in the set of X, a sequence that comes back to the start has every loom of X in it: a loom j of X that is
   -- not in it could begin one from the start, and end this one, with the same state.
   pub every-loom-appears : (X : Side) → (InSet next looms start (sideNumber X) start → ⊥) → (Z : Side) (us : List ℕ) →
-      Order looms (sideNumber Z) us → reached next looms start us ≡ start → (j : ℕ) → j < length looms → sideOf looms j ≡ X → times j us ≡ 0 → ⊥
+      Sequence looms (sideNumber Z) us → reached next looms start us ≡ start → (j : ℕ) → j < length looms → sideOf looms j ≡ X → times j us ≡ 0 → ⊥
   every-loom-appears X not-in Z us order back j here side absent = by-first (same-or-other Z X)
     where
       by-first : (Z ≡ X) ⊎ (Z ≡ other X) → ⊥
@@ -73,7 +73,7 @@ module _ {next : ℕ → ℕ → ℕ} {looms : List Seat} {start : ℕ} {R : Rul
 
   -- Where the lone yielding loom is not in an order, the order is not of its side.
   pub leads-without : (k : ℕ) (X : Side) (us : List ℕ) → R .yieldsAlone ≡ true → k < length looms → sideOf looms k ≡ other (R .leading) →
-      Order looms (sideNumber X) us → times k us ≡ 0 → X ≡ R .leading
+      Sequence looms (sideNumber X) us → times k us ≡ 0 → X ≡ R .leading
   leads-without k X us alone here yields order absent = by-side (same-or-other X (R .leading))
     where
       by-side : (X ≡ R .leading) ⊎ (X ≡ other (R .leading)) → X ≡ R .leading

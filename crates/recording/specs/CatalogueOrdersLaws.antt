@@ -16,7 +16,7 @@ use Rattle.cell.specs.Table.{entryOf}
 use Rattle.recording.specs.declared.Seat.{Seat}
 use Rattle.recording.specs.CatalogueCertificate.{follower, catalogueLooms}
 use Rattle.recording.specs.OrdersLaws.{one-at-most}
-use Rattle.recording.specs.Recording.{emptySeat, sideAt, operationAt, one, times, Order, reached, InSet}
+use Rattle.recording.specs.Recording.{emptySeat, sideAt, operationAt, one, times, Sequence, reached, InSet}
 
 -- ---- counting looms
 -- The looms of a sequence other than loom 0.
@@ -174,7 +174,7 @@ module _ (n : ℕ) (several : 2 ≤ n) where
   pub looms-counted : length (catalogueLooms n) ≡ n
   looms-counted = omega (arith, length-replicate (n - 1) follower)
 
-  below-all : (X : ℕ) (us : List ℕ) → Order (catalogueLooms n) X us → Below n us
+  below-all : (X : ℕ) (us : List ℕ) → Sequence (catalogueLooms n) X us → Below n us
   below-all X us order i past = order .looms-of-it i (subst (λ (k : ℕ). k ≤ i) (sym looms-counted) past)
 
   -- Loom 0 first: to a row of A.
@@ -182,7 +182,7 @@ module _ (n : ℕ) (several : 2 ≤ n) where
   unfolding to others
   reaches-A q by = go (by .0) (by .1) (by .2)
     where
-      go : (us : List ℕ) → Order (catalogueLooms n) 0 us → to n us ≡ q → q < n
+      go : (us : List ℕ) → Sequence (catalogueLooms n) 0 us → to n us ≡ q → q < n
       go [] order goes = absurd (order .first-of-X)
       go (suc u ∷ us) order goes =
           absurd (omega (arith, of-A (suc u) (below-first n (suc u) us (below-all 0 (suc u ∷ us) order)) (order .first-of-X)))
@@ -198,7 +198,7 @@ module _ (n : ℕ) (several : 2 ≤ n) where
   unfolding to others
   reaches-B q by = go (by .0) (by .1) (by .2)
     where
-      go : (us : List ℕ) → Order (catalogueLooms n) 1 us → to n us ≡ q → (n < q) × (q < 2 * n)
+      go : (us : List ℕ) → Sequence (catalogueLooms n) 1 us → to n us ≡ q → (n < q) × (q < 2 * n)
       go [] order goes = absurd (order .first-of-X)
       go (zero ∷ us) order goes = absurd (of-B zero (order .first-of-X) refl)
       go (suc u ∷ us) order goes =
@@ -210,7 +210,7 @@ module _ (n : ℕ) (several : 2 ≤ n) where
           omega arith
 
   -- ---- and the other way: an order for each of these states
-  order-in-turn : (X j k : ℕ) → j + suc k ≤ n → sideAt (catalogueLooms n) j ≡ X → Order (catalogueLooms n) X (inTurn j (suc k))
+  order-in-turn : (X j k : ℕ) → j + suc k ≤ n → sideAt (catalogueLooms n) j ≡ X → Sequence (catalogueLooms n) X (inTurn j (suc k))
   unfolding inTurn
   order-in-turn X j k room side =
       record {

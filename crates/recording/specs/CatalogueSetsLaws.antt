@@ -20,7 +20,7 @@ use Rattle.recording.specs.declared.Certificate.{Certificate}
 use Rattle.recording.specs.declared.Seat.{Seat}
 use Rattle.recording.specs.AcceptedLaws.{set-is-Q}
 use Rattle.recording.specs.CatalogueCertificate.{follower, catalogueLooms, CatalogueCertificate}
-use Rattle.recording.specs.CatalogueOrders.{looms-counted, reaches-A, reaches-B, row-of-A, row-of-B}
+use Rattle.recording.specs.CatalogueOrdersLaws.{looms-counted, reaches-A, reaches-B, row-of-A, row-of-B}
 use Rattle.recording.specs.Check.{loomsOf, firstMisfit, roomFor, faultOf, judgement, setBy, judgedOf}
 use Rattle.recording.specs.CheckLaws.{fault-looms, fault-none, judged-past}
 use Rattle.recording.specs.Known.{certificateOf}

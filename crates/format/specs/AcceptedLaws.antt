@@ -11,12 +11,12 @@ use lib.Dec.{ltb, eqb}
 use lib.ListN.{length}
 use borrow.Author.Tests.{ltb-true, eqb-true}
 use Rattle.cell.specs.Limits.{Limits}
-use Rattle.xdr.specs.Field.{wordAt, within, fieldAt, endAt}
-use Rattle.xdr.specs.FieldLaws.{Passed, then-both, then-passes, within-taken, field-taken, run-taken, end-taken}
+use Rattle.xdr.specs.Field.{wordAt, within, fieldAt, Passed, endAt}
+use Rattle.xdr.specs.FieldLaws.{then-both, then-passes, within-taken, field-taken, run-taken, end-taken}
 use Rattle.format.specs.declared.Plan.{Plan}
 use Rattle.format.specs.declared.Items.the-variants.{Entries, Looms, Acts}
 use Rattle.format.specs.Layout.{planOf}
-use Rattle.format.specs.Format.{exactly, namesAct, itemAt, runOf, seatsAt, sidesAt, headOf, certificateOf, numberAt, labelAt, piecesOf, scheduleOf, judgedBy, verdictOf}
+use Rattle.format.specs.Format.{exactly, firstRestart, entryOfAll, namesAct, itemAt, runOf, seatsAt, sidesAt, headOf, certificateOf, numberAt, labelAt, piecesOf, scheduleOf, judgedBy, verdictOf}
 
 -- Each field of a file passes, in file order.
 pub record Passes (L : Limits) (s : List ℕ) (P : Plan) : Type 0 where
@@ -94,9 +94,9 @@ pub act-below : (looms v : ℕ) → namesAct looms v ≡ true → v < 33 + looms
 unfolding namesAct
 act-below looms v h =
     ⊎-elim (λ (a : ltb v looms ≡ true). omega (arith, ltb-true v looms a))
-    (λ (b : within 16 (16 + looms) v || eqb v 32 ≡ true).
-    ⊎-elim (λ (c : within 16 (16 + looms) v ≡ true). omega (arith, within-taken 16 (16 + looms) v c .1))
-    (λ (d : eqb v 32 ≡ true). omega (arith, eqb-true v 32 d)) (either-cases _ _ b))
+    (λ (b : within firstRestart (firstRestart + looms) v || eqb v entryOfAll ≡ true).
+    ⊎-elim (λ (c : within firstRestart (firstRestart + looms) v ≡ true). omega (arith, within-taken firstRestart (firstRestart + looms) v c .1))
+    (λ (d : eqb v entryOfAll ≡ true). omega (arith, eqb-true v entryOfAll d)) (either-cases _ _ b))
     (either-cases (ltb v looms) _ h)
 
 -- What the limits say of the plan of a file that is taken.

@@ -11,7 +11,7 @@ use lib.Dec.{eqb}
 use lib.ListN.{length}
 use borrow.Author.Tests.{eq-eqb, ne-eqb, eqb-true}
 use Rattle.recording.specs.declared.Seat.{Seat}
-use Rattle.recording.specs.Recording.{sideAt, operationAt, one, sideCount, times, FirstIs, Order, reached}
+use Rattle.recording.specs.Recording.{sideAt, operationAt, one, sideCount, times, FirstIs, Sequence, reached}
 use Rattle.recording.specs.OrdersLaws.{one-at-most}
 
 -- How often a loom stands in a sequence with one more at its end.
@@ -43,7 +43,7 @@ first-of-one-more looms X k [] h = absurd h
 first-of-one-more looms X k (u ∷ us) h = h
 
 -- One loom alone is an order of its side.
-pub order-of-one : (looms : List Seat) (X k : ℕ) → k < length looms → sideAt looms k ≡ X → Order looms X (k ∷ [])
+pub order-of-one : (looms : List Seat) (X k : ℕ) → k < length looms → sideAt looms k ≡ X → Sequence looms X (k ∷ [])
 order-of-one looms X k here side =
     record {
       looms-of-it = λ j past. omega (arith, not-itself j k (λ e. omega arith));
@@ -52,8 +52,8 @@ order-of-one looms X k here side =
     }
 
 -- A loom that is not yet in an order may come at its end.
-pub order-of-one-more : (looms : List Seat) (X k : ℕ) (us : List ℕ) → Order looms X us → k < length looms → times k us ≡ 0 →
-    Order looms X (us ++ (k ∷ []))
+pub order-of-one-more : (looms : List Seat) (X k : ℕ) (us : List ℕ) → Sequence looms X us → k < length looms → times k us ≡ 0 →
+    Sequence looms X (us ++ (k ∷ []))
 order-of-one-more looms X k us order here new =
     record {
       looms-of-it = λ j past. not-in-one-more j k us (λ e. omega arith) (order .looms-of-it j past);
@@ -66,7 +66,7 @@ order-of-one-more looms X k us order here new =
     each j false e = omega (arith, times-of-one-more j k us, ap one e, order .each-once j)
 
 -- An order of X has a loom of X in it.
-pub loom-of-order : (looms : List Seat) (X : ℕ) (us : List ℕ) → Order looms X us →
+pub loom-of-order : (looms : List Seat) (X : ℕ) (us : List ℕ) → Sequence looms X us →
     (u : ℕ) × (u < length looms) × (sideAt looms u ≡ X) × (times u us ≡ 0 → ⊥)
 loom-of-order looms X [] order = absurd (order .first-of-X)
 loom-of-order looms X (u ∷ us) order = (u, by-cases (decLt u (length looms)), order .first-of-X, present)
