@@ -20,7 +20,7 @@ use Rattle.group.specs.declared.Outcome.{Outcome}
 use Rattle.group.specs.declared.Stepped.{Stepped}
 use Rattle.group.specs.declared.Restarted.{Restarted}
 use Rattle.group.specs.Group.{setOf, numberOf, leadOf, loomsRestarted}
-use Rattle.group.specs.Open.{pieces, openOf}
+use Rattle.group.specs.Open.{pieces, noGroup, openOf}
 use Rattle.group.specs.Step.{stepOnOf, stepOf, restartOf, restartAllOf}
 
 pub sets-only-of : (self : Sets) (side : Side) (r s : ℕ) → r ≡ setOf self side → s ≡ setOf self side → r ≡ s
@@ -31,6 +31,9 @@ numbers-only-of self side r s p q = p ∙ sym q
 
 pub group-only-lead : (self : Group) (r s : Lead) → r ≡ leadOf self → s ≡ leadOf self → r ≡ s
 group-only-lead self r s p q = p ∙ sym q
+
+pub only-no-group : (r s : Group) → r ≡ noGroup → s ≡ noGroup → r ≡ s
+only-no-group r s p q = p ∙ sym q
 
 pub only-open : (table : List ℕ) (states operations : ℕ) (certificate : Certificate) (a b : ℕ) (area : List ℕ) (r s : Opened) (x y : List ℕ) →
     (r ≡ openOf table states operations certificate (pieces a b) (length area)) × (x ≡ areaOf table states operations certificate area) →

@@ -10,7 +10,7 @@ ghost use Rattle.recording.specs.Recording.{one, emptySeat};
 ghost use Rattle.recording.specs.Check.{areaOf};
 ghost use Rattle.loom.specs.Looms.{rulesOf};
 ghost use Rattle.loom.specs.Turn.{hasAnswered};
-ghost use Rattle.group.specs.Open.{pieces, loomOf, slotsOf, freshGroup, unopened, openedBy, openOf, Held};
+ghost use Rattle.group.specs.Open.{pieces, loomOf, slotsOf, freshGroup, noGroup, unopened, openedBy, openOf, Held};
 ghost use Rattle.group.specs.Group.{emptyLoom, setOf, numberOf, countOf, yieldingOf, leadOf, noneOf, loomsRestarted};
 ghost use Rattle.group.specs.Step.{fittedOf, permitOf, mayStep, unmoved, taken, stepOnOf, refused, stepOf, restartOf, restartAllOf};
 use loom::Lead;
@@ -170,12 +170,12 @@ fn fresh(certificate: Certificate, sets: Sets, numbers: Numbers) -> Group
     }
 }
 
-// A refused opening: zeros and no looms.
-fn unopened(code: u8) -> Opened
-    ensures { λ r. ⌜ r ≡ unopened code ⌝ }
+// No group: zeros and empty slots.
+pub fn no_group() -> Group
+    ensures { λ r. ⌜ r ≡ noGroup ⌝ }
 {
     let looms = [empty_loom(); 8];
-    let group = Group {
+    Group {
         count: 0,
         start: 0,
         sets: Sets { a: 0, b: 0 },
@@ -186,7 +186,14 @@ fn unopened(code: u8) -> Opened
             b: 0,
         },
         looms,
-    };
+    }
+}
+
+// A refused opening: zeros and no looms.
+fn unopened(code: u8) -> Opened
+    ensures { λ r. ⌜ r ≡ unopened code ⌝ }
+{
+    let group = no_group();
     Opened { code, group }
 }
 

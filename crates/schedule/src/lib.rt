@@ -8,7 +8,7 @@ ghost use Rattle.cell.specs.Limits.{edition};
 ghost use Rattle.recording.specs.Recording.{one};
 ghost use Rattle.recording.specs.Check.{areaOf};
 ghost use Rattle.loom.specs.Turn.{hasAnswered};
-ghost use Rattle.group.specs.Open.{pieces, noGroup};
+ghost use Rattle.group.specs.Open.{pieces};
 ghost use Rattle.schedule.specs.Acts.{actOf, isNamed, allNamed};
 ghost use Rattle.schedule.specs.Played.{begun, playedOf, marksOf};
 ghost use Rattle.schedule.specs.InPlace.{unmovedNote, movedNote, leadsTo, comeTo, Fitting, noTally, tallied, ranBy};
@@ -17,11 +17,9 @@ use cell::Moved;
 use group::Group;
 use group::Numbers;
 use group::Opened;
-use group::Sets;
 use loom::Loom;
 use loom::Place;
 use loom::Shared;
-use loom::Side;
 use loom::Turned;
 use recording::Certificate;
 
@@ -150,36 +148,11 @@ fn refusal(count: usize, schedule: &[u8], room: usize) -> u8
     0
 }
 
-// No group: zeros and empty slots.
-fn no_group() -> Group
-    ensures { λ r. ⌜ r ≡ noGroup ⌝ }
-{
-    let empty = Loom {
-        side: Side::A,
-        operation: 0,
-        steps: 0,
-        place: Place::Begin,
-    };
-    let looms = [empty; 8];
-    Group {
-        count: 0,
-        start: 0,
-        sets: Sets { a: 0, b: 0 },
-        numbers: Numbers { a: 0, b: 0 },
-        shared: Shared {
-            cell: 0,
-            a: 0,
-            b: 0,
-        },
-        looms,
-    }
-}
-
 // A refused run: zeros and no looms.
 fn unrun(code: u8) -> Ran
     ensures { λ r. ⌜ r ≡ unrun code ⌝ }
 {
-    let group = no_group();
+    let group = group::no_group();
     Ran {
         code,
         group,

@@ -1,14 +1,14 @@
--- `group::unopened` meets its contract: eight empty slots, and zeros.
+-- `group::unopened` meets its contract: the code, and no group.
 -- Assumes nothing.
 use borrow.Author.Needs.{needs}
 use Rattle.group.proofs.unopened.Statement.{statement}
 use Rattle.group.proofs.unopened.Tie as tie
 
-empty-loom-requires : tie.Need-empty-loom-requires
-empty-loom-requires c κs = search needs
+no-group-requires : tie.Need-no-group-requires
+no-group-requires c κs = search needs
 
 returns : tie.Need-returns
 returns c = cc
 
 pub unopened-spec : {M : Type 1} → statement M
-unopened-spec = tie.close (tie.spec empty-loom-requires returns)
+unopened-spec = tie.close (tie.spec no-group-requires returns)
