@@ -3,10 +3,8 @@
 use Prim.Native.Nat.{ℕ, min}
 use mathlib.Core.Path.{_≡_, sym, _∙_}
 use mathlib.Core.List.{List}
-use lib.ListN.{length}
 use Rattle.cell.specs.Limits.{edition}
 use Rattle.recording.specs.declared.Certificate.{Certificate}
-use Rattle.recording.specs.Check.{areaOf}
 use Rattle.loom.specs.declared.Side.{Side}
 use Rattle.loom.specs.declared.Loom.{Loom}
 use Rattle.loom.specs.declared.Lead.{Lead}
@@ -20,7 +18,7 @@ use Rattle.group.specs.declared.Outcome.{Outcome}
 use Rattle.group.specs.declared.Stepped.{Stepped}
 use Rattle.group.specs.declared.Restarted.{Restarted}
 use Rattle.group.specs.Group.{setOf, numberOf, leadOf, loomsRestarted}
-use Rattle.group.specs.Open.{pieces, noGroup, openOf}
+use Rattle.group.specs.Open.{noGroup, OpensTo}
 use Rattle.group.specs.Step.{stepOnOf, stepOf, restartOf, restartAllOf}
 
 pub sets-only-of : (self : Sets) (side : Side) (r s : ℕ) → r ≡ setOf self side → s ≡ setOf self side → r ≡ s
@@ -35,11 +33,9 @@ group-only-lead self r s p q = p ∙ sym q
 pub only-no-group : (r s : Group) → r ≡ noGroup → s ≡ noGroup → r ≡ s
 only-no-group r s p q = p ∙ sym q
 
-pub only-open : (table : List ℕ) (states operations : ℕ) (certificate : Certificate) (a b : ℕ) (area : List ℕ) (r s : Opened) (x y : List ℕ) →
-    (r ≡ openOf table states operations certificate (pieces a b) (length area)) × (x ≡ areaOf table states operations certificate area) →
-    (s ≡ openOf table states operations certificate (pieces a b) (length area)) × (y ≡ areaOf table states operations certificate area) →
-    (r ≡ s) × (x ≡ y)
-only-open table states operations certificate a b area r s x y p q = (p .0 ∙ sym (q .0), p .1 ∙ sym (q .1))
+pub only-open : (table : List ℕ) (states operations : ℕ) (certificate : Certificate) (numbers : Numbers) (area : List ℕ) (r s : Opened) (x y : List ℕ) →
+    OpensTo table states operations certificate numbers area r x → OpensTo table states operations certificate numbers area s y → (r ≡ s) × (x ≡ y)
+only-open table states operations certificate numbers area r s x y p q = (p .answer-is ∙ sym (q .answer-is), p .area-is ∙ sym (q .area-is))
 
 pub only-step-on : (lead : Lead) (number : ℕ) (table : List ℕ) (states operations : ℕ) (shared : Shared) (loom : Loom) (r s : Outcome) →
     r ≡ stepOnOf (rulesOf lead) number table states operations shared loom →

@@ -1,16 +1,17 @@
 -- Opening a group: document 01, "One loom's steps" and "Codes and their order".
 -- Assumes nothing.
 use Prim.Native.Nat.{ℕ, zero, suc, _<_, _≤_}
+use mathlib.Core.Path.{_≡_}
 use mathlib.Core.Bool.{Bool, not, cond, _||_}
 use mathlib.Core.List.{List, [], _∷_}
 use lib.Dec.{eqb}
-use lib.ListN.{getD, replicate}
+use lib.ListN.{length, getD, replicate}
 use Rattle.cell.specs.Limits.{edition}
 use Rattle.recording.specs.declared.Seat.{Seat}
 use Rattle.recording.specs.declared.Certificate.{Certificate}
 use Rattle.recording.specs.declared.Judged.{Judged}
 use Rattle.recording.specs.Recording.{emptySeat}
-use Rattle.recording.specs.Check.{judgedOf}
+use Rattle.recording.specs.Check.{judgedOf, areaOf}
 use Rattle.loom.specs.declared.Place.the-variants.{Begin}
 use Rattle.loom.specs.declared.Loom.{Loom}
 use Rattle.loom.specs.Sides.{sideFrom}
@@ -88,3 +89,8 @@ pub record Held (c : Certificate) : Type 0 where
   pub few : c .count ≤ edition .looms
   pub start-held : c .start < 256
   pub operation-held : (k : ℕ) → k < c .count → getD (c .seats) k emptySeat .operation < 256
+
+-- What an opening leaves: its answer, and the area as the check leaves it.
+pub record OpensTo (table : List ℕ) (states operations : ℕ) (c : Certificate) (numbers : Numbers) (area : List ℕ) (answer : Opened) (after : List ℕ) : Type 0 where
+  pub answer-is : answer ≡ openOf table states operations c numbers (length area)
+  pub area-is : after ≡ areaOf table states operations c area

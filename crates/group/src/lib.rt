@@ -7,10 +7,9 @@ ghost use lib.ListN.{length, getD, take};
 ghost use Rattle.cell.specs.Limits.{edition};
 ghost use Rattle.loom.specs.Sides.{sameSide};
 ghost use Rattle.recording.specs.Recording.{one, emptySeat};
-ghost use Rattle.recording.specs.Check.{areaOf};
 ghost use Rattle.loom.specs.Looms.{rulesOf};
 ghost use Rattle.loom.specs.Turn.{hasAnswered};
-ghost use Rattle.group.specs.Open.{pieces, loomOf, slotsOf, freshGroup, noGroup, unopened, openedBy, openOf, Held};
+ghost use Rattle.group.specs.Open.{pieces, loomOf, slotsOf, freshGroup, noGroup, unopened, openedBy, OpensTo, Held};
 ghost use Rattle.group.specs.Group.{emptyLoom, setOf, numberOf, countOf, yieldingOf, leadOf, noneOf, loomsRestarted};
 ghost use Rattle.group.specs.Step.{fittedOf, permitOf, mayStep, unmoved, taken, stepOnOf, refused, stepOf, restartOf, restartAllOf};
 use loom::Lead;
@@ -208,8 +207,7 @@ pub fn open(
     b: u32,
     area: &mut [u64],
 ) -> Opened
-    ensures { λ r. ⌜ (r ≡ openOf (now (table .entry)) states operations certificate (pieces a b) (length (now (area .entry))))
-        × (now (area .exit) ≡ areaOf (now (table .entry)) states operations certificate (now (area .entry))) ⌝ }
+    ensures { λ r. ⌜ OpensTo (now (table .entry)) states operations certificate (pieces a b) (now (area .entry)) r (now (area .exit)) ⌝ }
 {
     let judged = recording::judge(table, states, operations, certificate, area);
     opening(judged, certificate, Numbers { a, b })

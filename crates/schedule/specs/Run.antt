@@ -8,6 +8,7 @@ use lib.Dec.{ltb, eqb}
 use lib.ListN.{length, drop}
 use Rattle.cell.specs.Limits.{edition}
 use Rattle.recording.specs.declared.Certificate.{Certificate}
+use Rattle.recording.specs.Check.{areaOf}
 use Rattle.group.specs.declared.Numbers.{Numbers}
 use Rattle.group.specs.declared.Opened.{Opened}
 use Rattle.group.specs.Open.{noGroup, openOf}
@@ -56,3 +57,9 @@ runOf table states operations c numbers schedule room words =
 abbrev pub bufferOf : List ℕ → ℕ → ℕ → Certificate → Numbers → List ℕ → List ℕ → ℕ → List ℕ
 bufferOf table states operations c numbers schedule marks words =
     markedOf table states operations (openOf table states operations c numbers words) schedule marks
+
+-- What a run leaves: its result, the buffer, and the area as the check leaves it.
+pub record RunsTo (table : List ℕ) (states operations : ℕ) (c : Certificate) (numbers : Numbers) (schedule marks area : List ℕ) (result : Ran) (buffer after : List ℕ) : Type 0 where
+  pub result-is : result ≡ runOf table states operations c numbers schedule (length marks) (length area)
+  pub buffer-is : buffer ≡ bufferOf table states operations c numbers schedule marks (length area)
+  pub area-is : after ≡ areaOf table states operations c area

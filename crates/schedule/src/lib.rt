@@ -6,13 +6,12 @@ ghost use Prim.Native.Nat.{_<_, _≤_, max};
 ghost use lib.ListN.{length, drop};
 ghost use Rattle.cell.specs.Limits.{edition};
 ghost use Rattle.recording.specs.Recording.{one};
-ghost use Rattle.recording.specs.Check.{areaOf};
 ghost use Rattle.loom.specs.Turn.{hasAnswered};
 ghost use Rattle.group.specs.Open.{pieces};
 ghost use Rattle.schedule.specs.Acts.{actOf, isNamed, allNamed};
 ghost use Rattle.schedule.specs.Played.{begun, playedOf, marksOf};
 ghost use Rattle.schedule.specs.InPlace.{unmovedNote, movedNote, leadsTo, comeTo, Fitting, noTally, tallied, ranBy};
-ghost use Rattle.schedule.specs.Run.{Playable, refusalOf, codeOf, unrun, ranOf, markedOf, runOf, bufferOf};
+ghost use Rattle.schedule.specs.Run.{Playable, refusalOf, codeOf, unrun, ranOf, markedOf, RunsTo};
 use cell::Moved;
 use group::Group;
 use group::Numbers;
@@ -90,11 +89,8 @@ pub fn run(
     marks: &mut [u8],
     area: &mut [u64],
 ) -> Ran
-    ensures { λ r. ⌜ (r ≡ runOf (now (table .entry)) states operations certificate (pieces a b) (now (schedule .entry))
-        (length (now (marks .entry))) (length (now (area .entry))))
-        × (now (marks .exit) ≡ bufferOf (now (table .entry)) states operations certificate (pieces a b) (now (schedule .entry))
-        (now (marks .entry)) (length (now (area .entry))))
-        × (now (area .exit) ≡ areaOf (now (table .entry)) states operations certificate (now (area .entry))) ⌝ }
+    ensures { λ r. ⌜ RunsTo (now (table .entry)) states operations certificate (pieces a b) (now (schedule .entry)) (now (marks .entry)) (now (area .entry))
+        r (now (marks .exit)) (now (area .exit)) ⌝ }
 {
     let opened = group::open(table, states, operations, certificate, a, b, area);
     run_opened(opened, table, states, operations, schedule, marks)

@@ -36,7 +36,11 @@ same-length c = search needs
 returns : tie.Need-returns
 returns c =
     let a = c .before .before .before .before .before .before .before .args in
-    (c .opening .ensures ∙ ap (λ j. openedBy j (a .certificate) (pieces (a .a) (a .b))) (c .before .before .before .judge .ensures .answer-is), c .before .before .before .judge .ensures .area-is)
+    let judged = c .before .before .before .judge .ensures in
+    record {
+      answer-is = c .opening .ensures ∙ ap (λ j. openedBy j (a .certificate) (pieces (a .a) (a .b))) (judged .answer-is);
+      area-is = judged .area-is;
+    }
 
 pub open-spec : {M : Type 1} → statement M
 open-spec = tie.close (tie.spec judge-requires opening-requires same-length returns)

@@ -17,7 +17,7 @@ run-opened-requires : tie.Need-run-opened-requires
 run-opened-requires c κs =
     let a = c .before .before .before .before .before .before .before .before .before .args in
     opened-fitting (now (a .table)) (a .states) (a .operations) (a .certificate) (pieces (a .a) (a .b)) (length (now (a .area))) _
-    (c .before .before .before .«open» .ensures .0)
+    (c .before .before .before .«open» .ensures .answer-is)
 
 same-length : tie.Need-same-length
 same-length c = search needs
@@ -29,11 +29,12 @@ returns : tie.Need-returns
 returns c =
     let a = c .before .before .before .before .before .before .before .before .before .before .before .before .args in
     let opened = c .before .before .before .before .before .before .«open» .ensures in
-    let left = c .before .before .run-opened .ensures in (
-      left .0 ∙ ap (λ o. ranOf (now (a .table)) (a .states) (a .operations) o (now (a .schedule)) (length (now (a .marks)))) (opened .0),
-      left .1 ∙ ap (λ o. markedOf (now (a .table)) (a .states) (a .operations) o (now (a .schedule)) (now (a .marks))) (opened .0),
-      opened .1,
-    )
+    let left = c .before .before .run-opened .ensures in
+    record {
+      result-is = left .0 ∙ ap (λ o. ranOf (now (a .table)) (a .states) (a .operations) o (now (a .schedule)) (length (now (a .marks)))) (opened .answer-is);
+      buffer-is = left .1 ∙ ap (λ o. markedOf (now (a .table)) (a .states) (a .operations) o (now (a .schedule)) (now (a .marks))) (opened .answer-is);
+      area-is = opened .area-is;
+    }
 
 pub run-spec : {M : Type 1} → statement M
 run-spec = tie.close (tie.spec open-requires run-opened-requires same-length same-length-2 returns)

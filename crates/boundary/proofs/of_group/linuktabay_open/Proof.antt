@@ -29,12 +29,12 @@ returns c =
     let made = called .before .before .certificate-from .ensures in
     let args = called .before .before .before .before .before .before .before .args in
     let answer =
-    called .«open» .ensures .0
+    called .«open» .ensures .answer-is
     ∙ ap (λ (x : Certificate). openOf (args .table .now) (args .states) (args .operations) x (pieces (args .a) (args .b)) (length (args .area .now))) made in
     record {
       its-code = ap (λ (r : Opened). r .code) answer;
       its-group = c .with-group .ensures ∙ ap (λ (r : Opened). withGroup (args .group .now) (r .group)) answer;
-      its-area = called .«open» .ensures .1 ∙ ap (λ (x : Certificate). areaOf (args .table .now) (args .states) (args .operations) x (args .area .now)) made;
+      its-area = called .«open» .ensures .area-is ∙ ap (λ (x : Certificate). areaOf (args .table .now) (args .states) (args .operations) x (args .area .now)) made;
     }
 
 pub linuktabay-open-spec : {M : Type 1} → statement M

@@ -38,11 +38,11 @@ returns c =
     let args = called .before .before .before .before .before .before .before .before .before .before .before .args in
     let told = called .run .ensures in
     let answer =
-    told .0
+    told .result-is
     ∙ ap (λ (x : Certificate). runOf (args .table .now) (args .states) (args .operations) x (pieces (args .a) (args .b)) (args .schedule .now) (length (args .marks .now)) (length (args .area .now))) made in
     record {
-      its-marks = told .1 ∙ ap (λ (x : Certificate). bufferOf (args .table .now) (args .states) (args .operations) x (pieces (args .a) (args .b)) (args .schedule .now) (args .marks .now) (length (args .area .now))) made;
-      its-area = told .2 ∙ ap (λ (x : Certificate). areaOf (args .table .now) (args .states) (args .operations) x (args .area .now)) made;
+      its-marks = told .buffer-is ∙ ap (λ (x : Certificate). bufferOf (args .table .now) (args .states) (args .operations) x (pieces (args .a) (args .b)) (args .schedule .now) (args .marks .now) (length (args .area .now))) made;
+      its-area = told .area-is ∙ ap (λ (x : Certificate). areaOf (args .table .now) (args .states) (args .operations) x (args .area .now)) made;
       its-group = c .before .with-group .ensures ∙ ap (λ (r : Ran). withGroup (args .group .now) (r .group)) answer;
       its-counts = c .with-ran .ensures ∙ ap (withRan (args .out .now)) answer;
     }
