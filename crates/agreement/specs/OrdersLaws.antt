@@ -42,7 +42,7 @@ pub first-of-one-more : (looms : List Seat) (X k : ℕ) (us : List ℕ) → Firs
 first-of-one-more looms X k [] h = absurd h
 first-of-one-more looms X k (u ∷ us) h = h
 
--- One loom alone is an order of its side.
+-- One loom alone is a sequence of its side.
 pub order-of-one : (looms : List Seat) (X k : ℕ) → k < length looms → sideAt looms k ≡ X → Sequence looms X (k ∷ [])
 order-of-one looms X k here side =
     record {

@@ -29,11 +29,11 @@ unionOf set [] = set
 unionOf set (w ∷ ws) = unionOf (bitOr set w) ws
 
 module _ (next : ℕ → ℕ → ℕ) (looms : List Seat) (states start X : ℕ) where
-  -- The states that loom j leads to as the first of an order: one, for a loom of X.
+  -- The states that loom j leads to as the first of a sequence: one, for a loom of X.
   unfoldable pub firstBy : ℕ → ℕ
   firstBy j = cond (eqb (sideAt looms j) X) (2 ^ next (operationAt looms j) start) 0
 
-  -- What loom j adds to word m as the last of an order of the looms in m: nothing where m lacks it, the first word where m is
+  -- What loom j adds to word m as the last of a sequence of the looms in m: nothing where m lacks it, the first word where m is
   -- that loom alone, else what the word without it moves to. `earlier` holds the words below m.
   unfoldable pub lastBy : List ℕ → ℕ → ℕ → ℕ
   lastBy earlier m j =
