@@ -7,10 +7,10 @@ use native.Mathlib.Decide.{decLt}
 use native.Mathlib.Omega.{arith}
 use lib.Dec.{ltb}
 use borrow.Author.Tests.{lt-ltb, le-ltb, le-leb, lt-leb, eq-eqb, ne-eqb}
-use Rattle.cell.specs.Limits.{edition}
+use Rattle.cell.specs.Limits.{edition, firstRestart, entryOfAll}
 use Rattle.xdr.specs.Field.{within}
 use Rattle.format.specs.Format.{namesAct}
-use Rattle.schedule.specs.Acts.{firstRestart, entryOfAll, actOf, isNamed}
+use Rattle.schedule.specs.Acts.{actOf, isNamed}
 
 -- An entry of a loom's restart is below the last of them exactly where its loom is one of so many.
 restart-of-a-loom : (looms e : ℕ) → firstRestart ≤ e → ltb e (firstRestart + looms) ≡ ltb (e - firstRestart) looms

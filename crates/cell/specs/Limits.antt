@@ -14,3 +14,11 @@ pub record Limits : Type 0 where
 -- Today's edition.
 abbrev pub edition : Limits
 edition = record { states = 64; operations = 16; looms = 8; label = 32; entries = 4096 }
+
+-- "Entry k is a step of loom k, 16 + k a restart of loom k, 32 a restart of all": where restarts begin among a schedule's entries, and the
+-- entry of all.
+abbrev pub firstRestart : ℕ
+firstRestart = 16
+
+abbrev pub entryOfAll : ℕ
+entryOfAll = 32

@@ -10,13 +10,13 @@ use mathlib.Core.Logic.{_⊎_, inl, inr, ⊎-elim}
 use lib.Dec.{ltb, eqb}
 use lib.ListN.{length}
 use borrow.Author.Tests.{ltb-true, eqb-true}
-use Rattle.cell.specs.Limits.{Limits}
+use Rattle.cell.specs.Limits.{Limits, firstRestart, entryOfAll}
 use Rattle.xdr.specs.Field.{wordAt, within, fieldAt, Passed, endAt}
 use Rattle.xdr.specs.FieldLaws.{then-both, then-passes, within-taken, field-taken, run-taken, end-taken}
 use Rattle.format.specs.declared.Plan.{Plan}
 use Rattle.format.specs.declared.Items.the-variants.{Entries, Looms, Acts}
 use Rattle.format.specs.Layout.{planOf}
-use Rattle.format.specs.Format.{exactly, firstRestart, entryOfAll, namesAct, itemAt, runOf, seatsAt, sidesAt, headOf, certificateOf, numberAt, labelAt, piecesOf, scheduleOf, judgedBy, verdictOf}
+use Rattle.format.specs.Format.{exactly, namesAct, itemAt, runOf, seatsAt, sidesAt, headOf, certificateOf, numberAt, labelAt, piecesOf, scheduleOf, judgedBy, verdictOf}
 
 -- Each field of a file passes, in file order.
 pub record Passes (L : Limits) (s : List ℕ) (P : Plan) : Type 0 where

@@ -5,7 +5,7 @@ use Prim.Native.Nat.{ℕ, zero, suc, _+_, _*_, _^_}
 use mathlib.Core.Bool.{Bool, true, _&&_, _||_}
 use mathlib.Core.List.{List, [], _∷_}
 use lib.Dec.{ltb, eqb}
-use Rattle.cell.specs.Limits.{Limits}
+use Rattle.cell.specs.Limits.{Limits, firstRestart, entryOfAll}
 use Rattle.recording.specs.Recording.{sideCount}
 use Rattle.recording.specs.declared.Seat.{Seat}
 use Rattle.xdr.specs.declared.Field.{Field}
@@ -20,13 +20,6 @@ use Rattle.format.specs.declared.Items.the-variants.{Entries, Looms, Act
 -- The value n and no other.
 abbrev pub exactly : ℕ → ℕ → Bool
 exactly n = within n (n + 1)
-
--- From this entry on, an entry is a restart of a loom; and the entry that is a restart of all.
-abbrev pub firstRestart : ℕ
-firstRestart = 16
-
-abbrev pub entryOfAll : ℕ
-entryOfAll = 32
 
 -- "Entry k is a step of loom k, 16 + k a restart of loom k, 32 a restart of all": an entry that names an act of a group of so many looms.
 unfoldable pub namesAct : ℕ → ℕ → Bool

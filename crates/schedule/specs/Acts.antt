@@ -4,15 +4,9 @@ use Prim.Native.Nat.{ℕ, _-_}
 use mathlib.Core.Bool.{Bool, true, false, cond, _&&_}
 use mathlib.Core.List.{List, [], _∷_}
 use lib.Dec.{ltb, eqb}
+use Rattle.cell.specs.Limits.{firstRestart, entryOfAll}
 use Rattle.schedule.specs.declared.Act.{Act}
 use Rattle.schedule.specs.declared.Act.the-variants.{Step, Restart, RestartAll, Unknown}
-
--- From this entry on, an entry is a restart of a loom; and the entry that is a restart of all.
-abbrev pub firstRestart : ℕ
-firstRestart = 16
-
-abbrev pub entryOfAll : ℕ
-entryOfAll = 32
 
 -- "Entry k is a step of loom k, 16 + k a restart of loom k, 32 a restart of all."
 unfoldable pub actOf : ℕ → Act

@@ -13,7 +13,7 @@ use Rattle.cell.specs.declared.Moved.{Moved}
 use Rattle.cell.specs.declared.Moved.the-variants.{To, Refused}
 use Rattle.cell.specs.Table.{entryOf}
 use Rattle.cell.specs.TableLaws.{good-moves}
-use Rattle.cell.specs.Limits.{edition}
+use Rattle.cell.specs.Limits.{edition, firstRestart, entryOfAll}
 use Rattle.recording.specs.declared.Certificate.{Certificate}
 use Rattle.recording.specs.Check.{loomsOf}
 use Rattle.loom.specs.declared.Side.{Side}
@@ -41,7 +41,7 @@ use Rattle.schedule.specs.declared.Act.{Act}
 use Rattle.schedule.specs.declared.Act.the-variants.{Step, Restart, RestartAll, Unknown}
 use Rattle.schedule.specs.declared.Noted.{Noted}
 use Rattle.schedule.specs.declared.Tally.{Tally}
-use Rattle.schedule.specs.Acts.{firstRestart, entryOfAll, actOf, isNamed, allNamed}
+use Rattle.schedule.specs.Acts.{actOf, isNamed, allNamed}
 use Rattle.schedule.specs.Played.{markOf, afterStep, afterRestart, withActed, actedOf}
 use Rattle.schedule.specs.InPlace.{unmovedNote, movedNote, actedBy, comeTo, Fitting, leadsTo, tallied, ranBy}
 use Rattle.schedule.specs.CountsLaws.{first-named, fits-acted}

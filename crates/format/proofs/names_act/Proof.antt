@@ -4,7 +4,8 @@ use Prim.Native.Nat.{_+_}
 use native.Mathlib.Omega.{arith}
 use borrow.Author.Tests.{lt-ltb, le-ltb, ne-eqb}
 use Rattle.xdr.specs.FieldLaws.{within-takes, within-low, within-high}
-use Rattle.format.specs.Format.{firstRestart, entryOfAll, namesAct}
+use Rattle.cell.specs.Limits.{firstRestart, entryOfAll}
+use Rattle.format.specs.Format.{namesAct}
 use Rattle.format.proofs.names_act.Statement.{statement}
 use Rattle.format.proofs.names_act.Tie as tie
 

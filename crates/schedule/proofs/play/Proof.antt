@@ -11,10 +11,10 @@ use native.Mathlib.Omega.{arith}
 use lib.ListN.{length, take, drop, set, getD, length-set}
 use denote.Ref.{now}
 use borrow.Author.Needs.{needs}
-use Rattle.cell.specs.Limits.{edition}
+use Rattle.cell.specs.Limits.{edition, firstRestart, entryOfAll}
 use Rattle.group.specs.Group.{leadOf}
 use Rattle.demands.specs.Kept.{Kept}
-use Rattle.schedule.specs.Acts.{firstRestart, entryOfAll, actOf, isNamed}
+use Rattle.schedule.specs.Acts.{actOf, isNamed}
 use Rattle.schedule.specs.Played.{begun, actedOf, playedOf, marksOf}
 use Rattle.schedule.specs.PlayedLaws.{Turned, Within, within-none, within-next, played-next, marks-next, bytes-after, played-past, marks-all}
 use Rattle.schedule.specs.InPlace.{unmovedNote, actedBy, comeTo, Fitting, ranBy}
