@@ -1,20 +1,29 @@
--- The looms of a set, walked by the lowest digit: what is left of m from loom k on is m / 2 ^ k.
+-- The looms of a set, walked by the lowest digit.
 -- Assumes nothing.
-use Prim.Native.Nat.{ℕ, _+_, _-_, _/_, _%_, _^_, _≤_, _<_}
-use mathlib.Core.Path.{_≡_, sym, ap, subst, _∙_}
-use native.Mathlib.Decide.{decLt}
-use native.Mathlib.Nat.{lt-of-lt-of-le, lt-of-le-of-lt}
+use Prim.Native.Nat.{ℕ, zero, suc, _+_, _-_, _^_, _≤_, _<_}
+use mathlib.Core.Path.{_≡_, refl, sym, ap, _∙_}
+use mathlib.Core.Bool.{Bool, true, false}
+use native.Mathlib.Decide.{decLt, ℕ-discrete}
+use native.Mathlib.Nat.{lt-of-lt-of-le}
 use native.Mathlib.Omega.{arith}
-use lib.Pow.{pow-mono, shr-shr, shr-le}
+use borrow.Author.Tests.{eq-eqb, ne-eqb}
+use lib.Dec.{eqb}
+use lib.Pow.{pow-mono}
 use Rattle.sets.specs.Sets.{bit, lowestOf, wordBits}
 use Rattle.sets.specs.MembersLaws.{lowest-is-lowest}
-use Rattle.sets.specs.SetsLaws.{bit-zero, bit-beyond}
+use Rattle.sets.specs.SetsLaws.{bit-zero, bit-beyond, below-by-members}
+use Rattle.recording.specs.OrdersLaws.{without}
+use Rattle.recording.specs.Recording.{one}
 use Rattle.recording.specs.VerdictLaws.{lowest-there}
 
--- The digits of what is left.
-digit-left : (m k i : ℕ) → bit (m / 2 ^ k) i ≡ bit m (k + i)
-unfolding bit
-digit-left m k i = ap (λ (x : ℕ). x % 2) (shr-shr m k i)
+-- What is left of m from loom k on: no loom below k, and the looms of m from there.
+pub record LeftFrom (m k left : ℕ) : Type 0 where
+  pub none-below : (i : ℕ) → i < k → bit left i ≡ 0
+  pub as-in-m : (i : ℕ) → k ≤ i → bit left i ≡ bit m i
+
+-- At first all of it.
+pub all-left : (m : ℕ) → LeftFrom m 0 m
+all-left m = record { none-below = λ i below. absurd (let no : ⊥ = omega (arith, below) in no); as-in-m = λ i past. refl }
 
 -- Loom j is the next of m from loom k on, of n in all.
 pub record NextLoom (m n k j : ℕ) : Type 0 where
@@ -23,46 +32,60 @@ pub record NextLoom (m n k j : ℕ) : Type 0 where
   pub has : bit m j ≡ 1
   pub none-between : (i : ℕ) → k ≤ i → i < j → bit m i ≡ 0
 
-module _ (m n k left : ℕ) (small : m < 2 ^ n) (few : n ≤ wordBits) (so : left ≡ m / 2 ^ k) where
+module _ (m n k left : ℕ) (small : m < 2 ^ n) (few : n ≤ wordBits) (so : LeftFrom m k left) where
   left-small : left < 2 ^ wordBits
   left-small =
-      lt-of-lt-of-le (lt-of-le-of-lt (subst (λ (x : ℕ). x ≤ m) (sym so) (shr-le m k)) small) (pow-mono few)
+      lt-of-lt-of-le
+      (below-by-members n left
+      (λ i past.
+      elim (decLt i k) [
+        | yes below ↦ so .none-below i below
+        | no above ↦ so .as-in-m i (omega (arith, above)) ∙ bit-beyond n m i small past
+      ]))
+      (pow-mono few)
 
-  -- The lowest digit of what is left leads to the next loom.
-  pub next-loom : (left ≡ 0 → ⊥) → NextLoom m n k (k + lowestOf wordBits left)
-  next-loom some =
-      record {
-        past = omega arith;
-        within =
-            elim (decLt (k + low) n) [
-              | yes below ↦ below
-              | no beyond ↦ absurd (let no : ⊥ = omega (arith, has, bit-beyond n m (k + low) small (omega arith)) in no)
-            ];
-        has = has;
-        none-between = λ i past below.
-            let there : k + (i - k) ≡ i = omega (arith, past) in
-            sym (ap (bit m) there)
-            ∙ sym (digit-left m k (i - k))
-            ∙ ap (λ (x : ℕ). bit x (i - k)) (sym so)
-            ∙ lowest-is-lowest wordBits left .none-below (i - k) (omega (arith, past, below));
-      }
-    where
-      low : ℕ
-      low = lowestOf wordBits left
+  module _ (some : left ≡ 0 → ⊥) (j : ℕ) (is : j ≡ lowestOf wordBits left) where
+    pub lowest-has : bit left j ≡ 1
+    lowest-has = ap (bit left) is ∙ lowest-there wordBits left left-small some
 
-      has : bit m (k + low) ≡ 1
-      has = sym (digit-left m k low) ∙ ap (λ (x : ℕ). bit x low) (sym so) ∙ lowest-there wordBits left left-small some
+    none-under : (i : ℕ) → i < j → bit left i ≡ 0
+    none-under i below = lowest-is-lowest wordBits left .none-below i (omega (arith, below, is))
 
-  -- What is left behind it.
-  pub left-behind : (s : ℕ) → left / 2 ^ s / 2 ^ 1 ≡ m / 2 ^ (k + s + 1)
-  left-behind s = shr-shr left s 1 ∙ ap (λ (x : ℕ). x / 2 ^ (s + 1)) so ∙ shr-shr m k (s + 1) ∙ ap (λ (e : ℕ). m / 2 ^ e) (omega arith)
+    not-before : k ≤ j
+    not-before =
+        elim (decLt j k) [
+          | yes before ↦ absurd (let no : ⊥ = omega (arith, lowest-has, so .none-below j before) in no)
+          | no after ↦ omega (arith, after)
+        ]
+
+    -- The lowest digit of what is left is the next loom.
+    pub next-loom : NextLoom m n k j
+    next-loom =
+        record {
+          past = not-before;
+          within =
+              elim (decLt j n) [
+                | yes below ↦ below
+                | no beyond ↦ absurd (let no : ⊥ = omega (arith, lowest-has, so .as-in-m j not-before, bit-beyond n m j small (omega (arith, beyond))) in no)
+              ];
+          has = sym (so .as-in-m j not-before) ∙ lowest-has;
+          none-between = λ i past below. sym (so .as-in-m i past) ∙ none-under i below;
+        }
+
+    -- Without it, what is left is from the loom behind it.
+    pub left-behind : LeftFrom m (j + 1) (left - 2 ^ j)
+    left-behind =
+        record {
+          none-below = λ i below.
+              elim (ℕ-discrete j i) [
+                | yes same ↦ omega (arith, without left j lowest-has i, ap one (eq-eqb j i same), sym (ap (bit left) same) ∙ lowest-has)
+                | no other ↦ omega (arith, without left j lowest-has i, ap one (ne-eqb j i other), none-under i (omega (arith, below, other)))
+              ];
+          as-in-m = λ i past.
+              let other : j ≡ i → ⊥ = λ e. omega (arith, past) in
+              omega (arith, without left j lowest-has i, ap one (ne-eqb j i other), so .as-in-m i (omega (arith, past, not-before)));
+        }
 
 -- Nothing is left: the looms from k on aren't in m.
-pub none-left : (m k : ℕ) → m / 2 ^ k ≡ 0 → (i : ℕ) → k ≤ i → bit m i ≡ 0
-unfolding bit
-none-left m k none i past =
-    let there : k + (i - k) ≡ i = omega (arith, past) in
-    sym (ap (λ (e : ℕ). m / 2 ^ e % 2) there)
-    ∙ sym (ap (λ (x : ℕ). x % 2) (shr-shr m k (i - k)))
-    ∙ ap (λ (x : ℕ). x / 2 ^ (i - k) % 2) none
-    ∙ bit-zero (i - k)
+pub none-left : (m k left : ℕ) → LeftFrom m k left → left ≡ 0 → (i : ℕ) → k ≤ i → bit m i ≡ 0
+none-left m k left so none i past = sym (so .as-in-m i past) ∙ ap (λ (x : ℕ). bit x i) none ∙ bit-zero i

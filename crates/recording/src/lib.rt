@@ -308,21 +308,19 @@ fn word(
         (length (now (operations .entry))) ⌝ }
 {
     let mut set = 0;
-    let mut from = 0;
     let mut left = m as u64;
     while left != 0 {
-        let skipped = sets::lowest(left);
-        let j = from + skipped;
+        let j = sets::lowest(left);
+        let lone = power(j);
         let seat = Seat {
             side: sides[j],
             operation: operations[j],
         };
         set = sets::union(
             set,
-            last_by(table, states, seat, start, side, earlier, m, power(j)),
+            last_by(table, states, seat, start, side, earlier, m, lone),
         );
-        left = (left >> skipped) >> 1;
-        from = j + 1;
+        left -= lone as u64;
     }
     set
 }
