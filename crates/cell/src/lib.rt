@@ -1,4 +1,6 @@
 // The limits of document 01, and a cell's table: its form and its one lookup.
+#![tactic(auto)]
+
 mod catalogue_cell;
 
 ghost use Rattle.std.specs.Prelude.{◌≡◌};
@@ -22,14 +24,14 @@ pub const LABEL: usize = 32;
 pub const ENTRIES: usize = 4096;
 
 // Whether a table has form: code 0, or the refusal and its place.
-#[derive(Drop)]
+#[derive(Clone, Copy)]
 pub struct Formed {
     pub code: u8,
     pub place: usize,
 }
 
 // What a lookup answers: the state after the operation, or that there is no such entry.
-#[derive(Drop)]
+#[derive(Clone, Copy)]
 pub enum Moved {
     To(u8),
     Refused,

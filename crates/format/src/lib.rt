@@ -1,4 +1,6 @@
 // The format of an order file: where its parts lie, and its fields judged one by one.
+#![tactic(auto)]
+
 ghost use Rattle.std.specs.Prelude.{◌≡◌, ◌+◌, ◌*◌, ◌≤◌, ◌<◌, ◌^◌, eqb, length};
 ghost use Rattle.cell.specs.Limits.{edition};
 ghost use Rattle.recording.specs.Recording.{one, side_count};
@@ -15,7 +17,7 @@ const RESTART: usize = 16;
 const ALL: usize = 32;
 
 // Where the parts of a file begin and how long they are, as its words say.
-#[derive(Drop)]
+#[derive(Clone, Copy)]
 pub struct Plan {
     pub states: usize,
     pub operations: usize,
@@ -31,7 +33,7 @@ pub struct Plan {
 }
 
 // The items of a counted array: entries of a table of so many states, looms fitted with so many operations, acts on so many looms.
-#[derive(Drop)]
+#[derive(Clone, Copy)]
 pub enum Items {
     Entries(usize),
     Looms(usize),
@@ -39,7 +41,7 @@ pub enum Items {
 }
 
 // What judging a file comes to: its verdict and its plan.
-#[derive(Drop)]
+#[derive(Clone, Copy)]
 pub struct Judgement {
     pub verdict: Field,
     pub plan: Plan,

@@ -1,4 +1,6 @@
 // A group of looms over one cell: opened, stepped and restarted.
+#![tactic(auto)]
+
 ghost use Rattle.std.specs.Prelude.{◌≡◌, true, cond, ℕ, ◌<◌, ◌≤◌, min, eqb, length, get_or, take};
 ghost use Rattle.cell.specs.Limits.{edition};
 ghost use Rattle.loom.specs.Sides.{same_side};
@@ -13,14 +15,14 @@ use loom::{Lead, Loom, Place, Said, Shared, Side, Turned};
 use recording::{Certificate, Judged, Seat};
 
 // The two sides' sets of states.
-#[derive(Drop)]
+#[derive(Clone, Copy)]
 pub struct Sets {
     pub a: u64,
     pub b: u64,
 }
 
 // The two sides' piece numbers.
-#[derive(Drop)]
+#[derive(Clone, Copy)]
 pub struct Numbers {
     pub a: u32,
     pub b: u32,
@@ -28,7 +30,7 @@ pub struct Numbers {
 
 // A group: how many looms it has, the start, the two sets and numbers, fixed at opening; the shared memory; and its looms. Slots beyond
 // the count are empty.
-#[derive(Drop)]
+#[derive(Clone, Copy)]
 pub struct Group {
     pub count: usize,
     pub start: u8,
@@ -39,21 +41,21 @@ pub struct Group {
 }
 
 // Whether a step may be taken: the state that its operation leads to, or the code that refuses it.
-#[derive(Drop)]
+#[derive(Clone, Copy)]
 enum Permit {
     Granted(u8),
     Denied(u8),
 }
 
 // What an opening comes to: the code and the group.
-#[derive(Drop)]
+#[derive(Clone, Copy)]
 pub struct Opened {
     pub code: u8,
     pub group: Group,
 }
 
 // What a step on lent memory comes to: the code, what it says, the memory and the loom.
-#[derive(Drop)]
+#[derive(Clone, Copy)]
 pub struct Outcome {
     pub code: u8,
     pub said: Said,
@@ -62,7 +64,7 @@ pub struct Outcome {
 }
 
 // What a step of a group comes to: the code, what it says, the loom's step count, and the group.
-#[derive(Drop)]
+#[derive(Clone, Copy)]
 pub struct Stepped {
     pub code: u8,
     pub said: Said,
@@ -71,7 +73,7 @@ pub struct Stepped {
 }
 
 // What a restart comes to: the code and the group.
-#[derive(Drop)]
+#[derive(Clone, Copy)]
 pub struct Restarted {
     pub code: u8,
     pub group: Group,

@@ -1,5 +1,7 @@
 // The hall printer: reads an order file on standard input and prints what it comes to, document 01's lines.
 // What matters is in the library; here bytes go in and lines come out.
+#![tactic(auto)]
+
 mod print;
 
 use libc::{STDERR_FILENO, STDIN_FILENO};
@@ -11,7 +13,7 @@ use schedule::Ran;
 const READ: usize = 20649;
 
 // What was read: so many bytes, or a read that failed.
-#[derive(Drop)]
+#[derive(Clone, Copy)]
 enum Taken {
     Bytes(usize),
     Failed,

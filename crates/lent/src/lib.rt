@@ -1,5 +1,7 @@
 // The shared memory of a group as one record that is lent to the step and altered there. A restart does not take the record at all: it
 // sets a loom's place and count (`loom::Loom::restarted`, `group::restart`), so there is no restart here.
+#![tactic(auto)]
+
 ghost use Rattle.std.specs.Prelude.{◌≡◌};
 ghost use Rattle.loom.specs.Looms.{rules_of};
 ghost use Rattle.group.specs.Step.{step_on_of};
@@ -9,7 +11,7 @@ use group::Outcome;
 use loom::{Lead, Loom, Said, Shared};
 
 // What a step on a lent record hands back: the code, what it says, and the loom.
-#[derive(Drop)]
+#[derive(Clone, Copy)]
 pub struct Lent {
     pub code: u8,
     pub said: Said,

@@ -1,1 +1,2 @@
 // The longest order file that is taken: theorems alone.
+#![tactic(auto)]

@@ -1,4 +1,6 @@
 // A loom, its place in one round, and the memory that the looms of a group share.
+#![tactic(auto)]
+
 ghost use Rattle.std.specs.Prelude.{◌≡◌};
 ghost use Rattle.loom.specs.Sides.{side_number, side_from, other, same_side, register, with_register, with_cell};
 ghost use Rattle.loom.specs.Turn.{decided, looks, after_posted, after_looking};
@@ -6,14 +8,14 @@ ghost use Rattle.loom.specs.Looms.{counted, standing, moved_to, restarted_of, ru
 ghost use Rattle.loom.specs.Numbers.{place_number, place_from, said_number, said_applied, said_piece};
 
 // The two sides of the aisle.
-#[derive(Drop)]
+#[derive(Clone, Copy)]
 pub enum Side {
     A,
     B,
 }
 
 // Where a loom stands in its round.
-#[derive(Drop)]
+#[derive(Clone, Copy)]
 pub enum Place {
     Begin,
     Posted,
@@ -25,7 +27,7 @@ pub enum Place {
 }
 
 // One loom: its side, its operation, its steps since it opened or last restarted, and its place.
-#[derive(Drop)]
+#[derive(Clone, Copy)]
 pub struct Loom {
     pub side: Side,
     pub operation: u8,
@@ -34,7 +36,7 @@ pub struct Loom {
 }
 
 // The memory that survives a restart: the cell's state and the two registers, 0 where nothing is posted.
-#[derive(Drop)]
+#[derive(Clone, Copy)]
 pub struct Shared {
     pub cell: u8,
     pub a: u32,
@@ -42,7 +44,7 @@ pub struct Shared {
 }
 
 // What a step says: nothing, that it applied the loom's operation, or the winner and its number.
-#[derive(Drop)]
+#[derive(Clone, Copy)]
 pub enum Said {
     Nothing,
     Application,
@@ -50,7 +52,7 @@ pub enum Said {
 }
 
 // What the looms of a group go by: the start, the leading side, its set, and whether the yielding side has one loom.
-#[derive(Drop)]
+#[derive(Clone, Copy)]
 pub struct Lead {
     pub start: u8,
     pub side: Side,
@@ -59,7 +61,7 @@ pub struct Lead {
 }
 
 // What one turn leaves: the loom, the shared memory, and what the step says.
-#[derive(Drop)]
+#[derive(Clone, Copy)]
 pub struct Turned {
     pub loom: Loom,
     pub shared: Shared,

@@ -1,4 +1,6 @@
 // An order file read into a record and two lent rooms, and the labels of the two sides.
+#![tactic(auto)]
+
 ghost use Rattle.std.specs.Prelude.{◌≡◌, ◌+◌, ◌*◌, ◌%◌, ◌≤◌, ◌<◌, ◌^◌, ◌++◌, length, drop};
 ghost use Rattle.cell.specs.Limits.{edition};
 ghost use Rattle.xdr.specs.Field.{word_at};
@@ -15,7 +17,7 @@ use xdr::Field;
 pub const TABLE: usize = cell::STATES * cell::OPERATIONS;
 
 // A side's piece: its number, and where its label's bytes lie in the file.
-#[derive(Drop)]
+#[derive(Clone, Copy)]
 pub struct Piece {
     pub number: u32,
     pub at: usize,
@@ -23,7 +25,7 @@ pub struct Piece {
 }
 
 // What a reading gives: its code and place, and for code 0 the order. The table's entries and the schedule's are in the lent rooms.
-#[derive(Drop)]
+#[derive(Clone, Copy)]
 pub struct Order {
     pub code: u8,
     pub place: usize,

@@ -1,20 +1,22 @@
 // A reader: a lent file and its own position in it. It hands out one field after another. Each function over it takes it apart and leaves
 // the work to a function on the file and the position, whose name ends in `_there`. A refusal is an answer, with its code and place, and
 // no refusal moves the reader. Callers that want no reader of their own use `read` and `part_at`.
+#![tactic(auto)]
+
 ghost use Rattle.std.specs.Prelude.{◌≡◌, ◌+◌};
 ghost use Rattle.reader.specs.Reader.{standing, left_of, word_of, end_of, after, past_of, read_of, PartOf};
 
 use xdr::Field;
 
 // The lent file, and where the reader stands in it.
-#[derive(Drop)]
+#[derive(Clone, Copy)]
 pub struct Reader<'a> {
     pub file: &'a [u8],
     pub at: usize,
 }
 
 // What a reader says at a position: the word there, where the part there ends, where it stands past that part, and what is left then.
-#[derive(Drop)]
+#[derive(Clone, Copy)]
 pub struct Reading {
     pub word: Field,
     pub end: Field,

@@ -8,7 +8,7 @@ use Rattle.std.specs.Int.Bits.{bit_or, bit_and}
 use Rattle.std.proofs.lemmas.Nat.{or_disjoint}
 use Rattle.std.proofs.Math.Pow.{split, high}
 use Rattle.sets.specs.Sets.{bit}
-use Rattle.sets.specs.SetsLaws.{bit_small, bit_beyond, equal_members, bit_zero, bit_or, bit_and, bit_single_same, bit_single_other}
+use Rattle.sets.specs.SetsLaws.{bit_small, bit_beyond, equal_members, bit_zero, bit-bit_or, bit-bit_and, bit_single_same, bit_single_other}
 use Rattle.recording.specs.declared.Seat.{Seat}
 use Rattle.recording.specs.Recording.{operation_at, one, times, FirstIs, reached}
 
@@ -60,14 +60,14 @@ never_both m j lacks i = go (eqb j i) refl
 pub put_in : (m j : ℕ) → bit m j ≡ 0 → (i : ℕ) → bit (m + 2 ^ j) i ≡ bit m i + one (eqb j i)
 put_in m j lacks i =
     ap (λ (x : ℕ). bit x i) (sym (or_disjoint m (2 ^ j) apart))
-    ∙ bit_or m (2 ^ j) i
+    ∙ bit-bit_or m (2 ^ j) i
     ∙ ap (max (bit m i)) (single_digits j i)
     ∙ omega (arith, never_both m j lacks i)
   where
     apart : bit_and m (2 ^ j) ≡ 0
     apart =
         equal_members (bit_and m (2 ^ j)) 0
-        (λ k. bit_and m (2 ^ j) k ∙ omega (arith, never_both m j lacks k, single_digits j k, bit_zero k))
+        (λ k. bit-bit_and m (2 ^ j) k ∙ omega (arith, never_both m j lacks k, single_digits j k, bit_zero k))
 
 -- The digits of a set that has loom j, by those of the set without it.
 pub without : (m j : ℕ) → bit m j ≡ 1 → (i : ℕ) → bit m i ≡ bit (m - 2 ^ j) i + one (eqb j i)
@@ -108,5 +108,5 @@ pub standing_digits : (us : List ℕ) → ((k : ℕ) → times k us ≤ 1) → (
 unfolding standing
 standing_digits [] once i = bit_zero i
 standing_digits (u ∷ us) once i =
-    bit_or (standing us) (2 ^ u) i
+    bit-bit_or (standing us) (2 ^ u) i
     ∙ omega (arith, standing_digits us (λ k. omega (arith, once k)) i, single_digits u i, once i)

@@ -8,7 +8,7 @@ use Rattle.std.specs.Int.Bits.{bit_and}
 use Rattle.std.proofs.lemmas.Nat.{and_le_l}
 use Rattle.sets.specs.Sets.{bit, has_of, lowest_of, word_bits}
 use Rattle.sets.specs.MembersLaws.{Lowest, lowest_is_lowest}
-use Rattle.sets.specs.SetsLaws.{bit_small, bit_beyond, bit_zero, bit_and, equal_members}
+use Rattle.sets.specs.SetsLaws.{bit_small, bit_beyond, bit_zero, bit-bit_and, equal_members}
 use Rattle.recording.specs.declared.Judged.{Judged}
 use Rattle.recording.specs.Check.{judgement, comes_back, verdict_of}
 use Rattle.recording.specs.CheckLaws.{verdict_shared, verdict_returns_A, verdict_returns_B, verdict_accepted}
@@ -29,7 +29,7 @@ abbrev pub Away : ℕ → ℕ → ℕ → Type 0
 Away start set others = (bit set start ≡ 1 → ⊥) ⊎ (others ≡ 1)
 
 common_none : (a b : ℕ) → Apart a b → bit_and a b ≡ 0
-common_none a b apart = equal_members (bit_and a b) 0 (λ q. bit_and a b q ∙ none q ∙ sym (bit_zero q))
+common_none a b apart = equal_members (bit_and a b) 0 (λ q. bit-bit_and a b q ∙ none q ∙ sym (bit_zero q))
   where
     none : (q : ℕ) → Prim.Native.Nat.min (bit a q) (bit b q) ≡ 0
     none q =
@@ -39,11 +39,11 @@ common_none a b apart = equal_members (bit_and a b) 0 (λ q. bit_and a b q ∙ n
         ]
 
 in_common : (a b q : ℕ) → bit (bit_and a b) q ≡ 1 → (bit a q ≡ 1) × (bit b q ≡ 1)
-in_common a b q has = omega (arith, bit_and a b q, bit_small a q, bit_small b q)
+in_common a b q has = omega (arith, bit-bit_and a b q, bit_small a q, bit_small b q)
 
 common_has : (a b : ℕ) → Shared a b → bit_and a b ≡ 0 → ⊥
 common_has a b shared none =
-    omega (arith, bit_and a b shared.0, shared.1, shared.2, ap (λ (w : ℕ). bit w shared.0) none, bit_zero shared.0)
+    omega (arith, bit-bit_and a b shared.0, shared.1, shared.2, ap (λ (w : ℕ). bit w shared.0) none, bit_zero shared.0)
 
 apart_of_none : (a b : ℕ) → bit_and a b ≡ 0 → Apart a b
 apart_of_none a b none q in_a in_b = common_has a b (q, in_a, in_b) none
@@ -126,7 +126,7 @@ module _ (start of_a of_b a b : ℕ) where
         let there = in_common a b (lowest_of word_bits (bit_and a b)) (lowest_there word_bits (bit_and a b) common_small (common_has a b shared)) in (
           there.0,
           there.1,
-          λ q lower in_a in_b. omega (arith, bit_and a b q, (lowest_is_lowest word_bits (bit_and a b)).none_below q lower),
+          λ q lower in_a in_b. omega (arith, bit-bit_and a b q, (lowest_is_lowest word_bits (bit_and a b)).none_below q lower),
         )
 
     pub verdict_says : Verdict start of_a of_b a b (verdict_of start of_a of_b a b).code

@@ -1,4 +1,6 @@
 // A certificate, and the check that accepts it exactly when it is recording: document 01, "Cell and certificate".
+#![tactic(auto)]
+
 ghost use Rattle.std.specs.Prelude.{◌≡◌, ◌++◌, ◌^◌, ◌≤◌, ◌<◌, eqb, length, drop, take};
 ghost use Rattle.std.specs.Int.Bits.{bit_or};
 ghost use Rattle.cell.specs.Table.{entry_of};
@@ -16,14 +18,14 @@ const A: usize = 0;
 const B: usize = 1;
 
 // One loom's seat in a certificate: its side (0 for A, 1 for B) and its operation, as plain numbers, since a wrong one is refused.
-#[derive(Drop)]
+#[derive(Clone, Copy)]
 pub struct Seat {
     pub side: usize,
     pub operation: usize,
 }
 
 // A start state and a seat for each of `count` looms; seats beyond the count say nothing.
-#[derive(Drop)]
+#[derive(Clone, Copy)]
 pub struct Certificate {
     pub start: usize,
     pub count: usize,
@@ -31,7 +33,7 @@ pub struct Certificate {
 }
 
 // What the check comes to: its code and place, and the sets of A and of B, which are empty where the code is 2 to 9 or 40.
-#[derive(Drop)]
+#[derive(Clone, Copy)]
 pub struct Judged {
     pub code: u8,
     pub place: usize,
@@ -40,7 +42,7 @@ pub struct Judged {
 }
 
 // The check's answer: a code, a place and the number of states in each set.
-#[derive(Drop)]
+#[derive(Clone, Copy)]
 pub struct Checked {
     pub code: u8,
     pub place: usize,
@@ -49,14 +51,14 @@ pub struct Checked {
 }
 
 // The sets of A and of B.
-#[derive(Drop)]
+#[derive(Clone, Copy)]
 struct Filled {
     a: u64,
     b: u64,
 }
 
 // The sides of eight seats, and their operations.
-#[derive(Drop)]
+#[derive(Clone, Copy)]
 struct Columns {
     sides: [usize; 8],
     operations: [usize; 8],

@@ -1,4 +1,6 @@
 // A run of a schedule: a group opened afresh, each entry taken in order, one mark an entry.
+#![tactic(auto)]
+
 ghost use Rattle.std.specs.Prelude.{◌≡◌, cond, ◌++◌, ◌<◌, ◌≤◌, max, length, drop};
 ghost use Rattle.cell.specs.Limits.{edition};
 ghost use Rattle.recording.specs.Recording.{one};
@@ -24,7 +26,7 @@ const ALL: u8 = 32;
 const ANSWERED: u8 = 3;
 
 // What an entry says is to be done.
-#[derive(Drop)]
+#[derive(Clone, Copy)]
 pub enum Act {
     Step(usize),
     Restart(usize),
@@ -33,7 +35,7 @@ pub enum Act {
 }
 
 // What an act comes to: its mark, whether an operation was applied, the loom's step count, and the group.
-#[derive(Drop)]
+#[derive(Clone, Copy)]
 pub struct Acted {
     pub mark: u8,
     pub applied: bool,
@@ -42,7 +44,7 @@ pub struct Acted {
 }
 
 // What an act is counted by: its mark, whether an operation was applied, and the loom's step count.
-#[derive(Drop)]
+#[derive(Clone, Copy)]
 struct Noted {
     mark: u8,
     applied: bool,
@@ -50,7 +52,7 @@ struct Noted {
 }
 
 // What is counted along a run: the entries, the answers for A and for B, the operations applied, and the longest run.
-#[derive(Drop)]
+#[derive(Clone, Copy)]
 struct Tally {
     entries: usize,
     a: usize,
@@ -60,7 +62,7 @@ struct Tally {
 }
 
 // What a run comes to: the code, the final group, the entries, the answers for A and for B, the operations applied, and the longest run.
-#[derive(Drop)]
+#[derive(Clone, Copy)]
 pub struct Ran {
     pub code: u8,
     pub group: Group,

@@ -70,18 +70,18 @@ last_digit : (h d : ℕ) → d < 2 → (h * 2 + d) % 2 ≡ d
 last_digit h d small = mul-add-mod_self_right h 2 d ∙ mod-eq_of_lt small
 
 -- The digits of a union, and of what two sets have in common.
-pub bit_or : (a b q : ℕ) → bit (bit_or a b) q ≡ max (bit a q) (bit b q)
+pub bit-bit_or : (a b q : ℕ) → bit (bit_or a b) q ≡ max (bit a q) (bit b q)
 unfolding bit
-bit_or a b q =
+bit-bit_or a b q =
     ap (λ (x : ℕ). x % 2) (or_shr a b q ∙ or_step (a / 2 ^ q) (b / 2 ^ q))
     ∙ last_digit
     (bit_or (a / 2 ^ q / 2) (b / 2 ^ q / 2))
     (max (bit a q) (bit b q))
     (omega (arith, bit_small a q, bit_small b q))
 
-pub bit_and : (a b q : ℕ) → bit (bit_and a b) q ≡ min (bit a q) (bit b q)
+pub bit-bit_and : (a b q : ℕ) → bit (bit_and a b) q ≡ min (bit a q) (bit b q)
 unfolding bit
-bit_and a b q =
+bit-bit_and a b q =
     ap (λ (x : ℕ). x % 2) (and_shr a b q ∙ and_step (a / 2 ^ q) (b / 2 ^ q))
     ∙ last_digit
     (bit_and (a / 2 ^ q / 2) (b / 2 ^ q / 2))
@@ -107,25 +107,25 @@ bit_single_other (suc p) (suc q) other =
 -- A set that holds the states of two is their union, and so with what they have in common.
 pub union_is : (a b r : ℕ) → Union a b r → r ≡ bit_or a b
 unfolding Union
-union_is a b r u = equal_members r (bit_or a b) (λ q. u q ∙ sym (bit_or a b q))
+union_is a b r u = equal_members r (bit_or a b) (λ q. u q ∙ sym (bit-bit_or a b q))
 
 pub common_is : (a b r : ℕ) → Common a b r → r ≡ bit_and a b
 unfolding Common
-common_is a b r c = equal_members r (bit_and a b) (λ q. c q ∙ sym (bit_and a b q))
+common_is a b r c = equal_members r (bit_and a b) (λ q. c q ∙ sym (bit-bit_and a b q))
 
 pub or_is_union : (a b : ℕ) → Union a b (bit_or a b)
 unfolding Union
-or_is_union a b = bit_or a b
+or_is_union a b = bit-bit_or a b
 
 pub and_is_common : (a b : ℕ) → Common a b (bit_and a b)
 unfolding Common
-and_is_common a b = bit_and a b
+and_is_common a b = bit-bit_and a b
 
 -- Putting a state in is a union with the set of that state alone.
 pub or_single_inserts : (k w q : ℕ) → q < k → Inserted k w q (bit_or w (2 ^ q))
 unfolding Inserted
 or_single_inserts k w q within p =
-    bit_or w (2 ^ q) p ∙ go (eqb p q) refl
+    bit-bit_or w (2 ^ q) p ∙ go (eqb p q) refl
   where
     go : (t : Bool) → eqb p q ≡ t → max (bit w p) (bit (2 ^ q) p) ≡ cond (ltb q k && eqb p q) 1 (bit w p)
     go true e =

@@ -1,4 +1,6 @@
 // A set of states in one word: document 01, "Cell and certificate". State q is in the set where digit q of the word is 1.
+#![tactic(auto)]
+
 ghost use Rattle.std.specs.Prelude.{◌≡◌};
 ghost use Rattle.sets.specs.Sets.{has_of, Union, Common, Inserted, size_of, lowest_of, word_bits};
 

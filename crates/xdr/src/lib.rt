@@ -1,10 +1,12 @@
 // A small format over a lent file: the word at a position, a field with its limits, an opaque part with its pad bytes.
+#![tactic(auto)]
+
 ghost use Rattle.std.specs.Prelude.{◌≡◌, ◌+◌, ◌≤◌, ◌<◌, ◌^◌, length, leb};
 ghost use Rattle.xdr.specs.Field.{joined, word_at, within, field_at, end_at};
 ghost use Rattle.xdr.specs.Opaque.{pad_of, all, part_of, opaque_at};
 
 // What a field gives: its value, or the code of its refusal and the byte where it begins.
-#[derive(Drop)]
+#[derive(Clone, Copy)]
 pub enum Field {
     Is(usize),
     Not(u8, usize),

@@ -1,0 +1,19 @@
+-- `cell::catalogue_cell::after_zero` meets its contract: where the state stands decides.
+use mathlib.Core.Path.{◌≡◌, sym, subst}
+use Prim.Native.Nat.{ℕ, ◌+◌}
+use native.Mathlib.Omega.{arith}
+use Rattle.cell.specs.Catalogue.{after_zero}
+use Rattle.cell.specs.CatalogueLaws.{zero_from_A, zero_from_start, zero_of_number}
+use Rattle.cell.proofs.catalogue_cell.after_zero.Goals as goal
+
+pub returns-then-state-n : goal.returns-then-state-n
+returns-then-state-n c = sym (zero_from_A _ _ c.if-state-n.true)
+
+pub returns-then-state-n-2 : goal.returns-then-state-n-2
+returns-then-state-n-2 c =
+    let args = c.args in
+    let start : args.n + 0 ≡ args.state = omega arith in
+    sym (subst (λ (q : ℕ). after_zero args.n q ≡ 0) start (zero_from_start args.n 0))
+
+pub returns : goal.returns
+returns c = sym (zero_of_number _ _ (omega arith))

@@ -1,0 +1,10 @@
+use native.Mathlib.Omega.{arith}
+use mathlib.Core.Path.{refl}
+use Rattle.xdr.specs.Opaque.{pad_of}
+use Rattle.xdr.proofs.pad.Reads as reads
+use Rattle.xdr.proofs.pad.Lts as lts
+use Rattle.xdr.proofs.pad.Goals as goal
+
+pub returns : goal.returns
+unfolding pad_of
+returns c = (refl, omega arith)
