@@ -1,0 +1,10 @@
+-- `recording::same` meets its contract: one way or the other.
+use borrow.Author.Rules.{rules}
+use borrow.Author.Tests.{eq-eqb, ne_eqb}
+use Rattle.recording.proofs.same.Goals as goal
+
+pub returns-then-a-b : goal.returns-then-a-b
+returns-then-a-b c = (simp (eq-eqb _ _ c.if-a-b.true), search rules)
+
+pub returns-else-a-b : goal.returns-else-a-b
+returns-else-a-b c = (simp (ne_eqb _ _ c.if-a-b.false), search rules)
