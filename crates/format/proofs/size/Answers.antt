@@ -1,0 +1,11 @@
+-- `format::size` is safe: a product of factors within limits is within the limits' product.
+use native.Mathlib.Omega.{arith}
+use native.Mathlib.Nat.{mul-le-mul}
+use mathlib.Core.Path.{refl}
+use Rattle.format.proofs.size.Goals as goal
+
+pub overflow_mul-result : goal.overflow_mul-result
+overflow_mul-result c = omega (arith, mul-le-mul c.requires.0 c.requires.1)
+
+pub returns : goal.returns
+returns c = (refl, mul-le-mul c.requires.0 c.requires.1)
