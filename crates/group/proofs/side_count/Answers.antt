@@ -33,10 +33,10 @@ loop-i-preserved c =
     let a = c.args in
     let i = c.loop-i.i in
     let here : i < a.count = c.loop-i-test.true in
-    let more = count_from a.side a.t1 a.count i here (omega arith) in
-    omega (arith, c.one_of-found.ensures, more, one_at_most (same_side (get_or a.t1 i empty_loom).side a.side))
+    let more = count_from a.side a.looms a.count i here (omega arith) in
+    omega (arith, c.one_of-found.ensures, more, one_at_most (same_side (get_or a.looms i empty_loom).side a.side))
 
 pub returns : goal.returns
 returns c =
     let a = c.args in
-    omega (arith, count_past a.side a.t1 a.count c.loop-i.i (omega arith))
+    omega (arith, count_past a.side a.looms a.count c.loop-i.i (omega arith))
