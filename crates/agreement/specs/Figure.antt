@@ -45,7 +45,7 @@ pub data Process : Type 0 where
 -- "Object O of type T, initially in state q0. Registers R_A and R_B, initially ⊥."
 pub record Objects : Type 0 where
   pub O : ℕ
-  pub Ra : Value
+  pub RA : Value
   pub RB : Value
 
 -- A process returned a value.
@@ -81,19 +81,19 @@ after_line19 (some r) q = running line20 q
 
 -- The atomic operation at a line, by the process with operation op that was called with v.
 unfoldable pub access : (ℕ → ℕ) → ℕ → Access → Value → Objects → Done
-access op v at5 q M = record { objects = record { O = M.O; Ra = some v; RB = M.RB }; process = running line6 q }
+access op v at5 q M = record { objects = record { O = M.O; RA = some v; RB = M.RB }; process = running line6 q }
 access op v at6 q M = record { objects = M; process = running line7 (some M.O) }
-access op v at8 q M = record { objects = record { O = op M.O; Ra = M.Ra; RB = M.RB }; process = running line9 q }
+access op v at8 q M = record { objects = record { O = op M.O; RA = M.RA; RB = M.RB }; process = running line9 q }
 access op v at9 q M = record { objects = M; process = running line11 (some M.O) }
-access op v at11 q M = record { objects = M; process = returned team_a M.Ra }
+access op v at11 q M = record { objects = M; process = returned team_a M.RA }
 access op v at12 q M = record { objects = M; process = returned team_b M.RB }
-access op v at16 q M = record { objects = record { O = M.O; Ra = M.Ra; RB = some v }; process = running line17 q }
+access op v at16 q M = record { objects = record { O = M.O; RA = M.RA; RB = some v }; process = running line17 q }
 access op v at17 q M = record { objects = M; process = running line18 (some M.O) }
-access op v at19 q M = record { objects = M; process = after_line19 M.Ra q }
-access op v at20 q M = record { objects = M; process = returned team_a M.Ra }
-access op v at22 q M = record { objects = record { O = op M.O; Ra = M.Ra; RB = M.RB }; process = running line23 q }
+access op v at19 q M = record { objects = M; process = after_line19 M.RA q }
+access op v at20 q M = record { objects = M; process = returned team_a M.RA }
+access op v at22 q M = record { objects = record { O = op M.O; RA = M.RA; RB = M.RB }; process = running line23 q }
 access op v at23 q M = record { objects = M; process = running line26 (some M.O) }
-access op v at26 q M = record { objects = M; process = returned team_a M.Ra }
+access op v at26 q M = record { objects = M; process = returned team_a M.RA }
 access op v at27 q M = record { objects = M; process = returned team_b M.RB }
 
 -- What was returned is noted.
@@ -152,4 +152,4 @@ module _ (G : Setting) where
 
   -- "The initial state of the system."
   abbrev pub initial : System
-  initial = record { objects = record { O = G.q0; Ra = none; RB = none }; process = begun; returns = [] }
+  initial = record { objects = record { O = G.q0; RA = none; RB = none }; process = begun; returns = [] }

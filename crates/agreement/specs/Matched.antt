@@ -80,7 +80,7 @@ returns_of (r ∷ returns) = record { loom = r.process; number = number r.value 
 -- The machine and the system are in the same state.
 pub record Matched (L : Side) (G : Setting) (S : State) (F : System) : Type 0 where
   pub cell : S.shared.cell ≡ F.objects.O
-  pub leading : register S.shared L ≡ number F.objects.Ra
+  pub leading : register S.shared L ≡ number F.objects.RA
   pub yielding : register S.shared (other L) ≡ number F.objects.RB
   pub place : (k : ℕ) → S.place k ≡ place_of L G (F.process k)
   pub answers : answers_of S.log ≡ returns_of F.returns

@@ -95,9 +95,9 @@ ahead_in_code G line26 q = team_of_cond (test G.in_qa q) team_b at26 at27 refl r
 -- The memory of the looms and the objects of the figure.
 pub record Same (L : Side) (m : Shared) (M : Objects) : Type 0 where
   pub cell : m.cell ≡ M.O
-  pub leading : register m L ≡ number M.Ra
+  pub leading : register m L ≡ number M.RA
   pub yielding : register m (other L) ≡ number M.RB
-  pub proper : Proper M.Ra
+  pub proper : Proper M.RA
 
 -- What turn t of loom k and an atomic operation leave is the same.
 pub record Equal (L : Side) (G : Setting) (X : Team) (t : Turn) (d : Done) : Type 0 where
@@ -120,7 +120,7 @@ yielding_looks R = rw (same_as_itself (other R.leading)) (and-true R.yields_alon
 
 -- An application changes the cell and the object alike, and no register.
 pub same_applied : {L : Side} (op : ℕ → ℕ) (m : Shared) (M : Objects) → Same L m M →
-    Same L (with_cell m (op m.cell)) (record { O = op M.O; Ra = M.Ra; RB = M.RB })
+    Same L (with_cell m (op m.cell)) (record { O = op M.O; RA = M.RA; RB = M.RB })
 same_applied {L} op m M same =
     record {
       cell = ap op same.cell;
@@ -224,7 +224,7 @@ module _ (next : ℕ → ℕ → ℕ) (looms : List Seat) (R : Rules) where
   turn_is_access at17 v op m q M some' same =
       record { same = same; place = ap (after_posted R (other R.leading)) same.cell ∙ place_after_line_seventeen M.O; code = refl }
   turn_is_access at19 v op m q M some' same =
-      record { same = same; place = place_after_line_nineteen m M.Ra q same.proper same.leading; code = code_after_line_nineteen M.Ra q }
+      record { same = same; place = place_after_line_nineteen m M.RA q same.proper same.leading; code = code_after_line_nineteen M.RA q }
   turn_is_access at20 v op m q M some' same = record { same = same; place = refl; code = tt }
   turn_is_access at22 v op m q M some' same = record { same = same_applied op m M same; place = refl; code = refl }
   turn_is_access at23 v op m q M some' same =
@@ -246,7 +246,7 @@ module _ (next : ℕ → ℕ → ℕ) (looms : List Seat) (R : Rules) where
   answer_is_return at12 k s v op m q M log returns same old = one_more_given k same.yielding old
   answer_is_return at16 k s v op m q M log returns same old = old
   answer_is_return at17 k s v op m q M log returns same old = old
-  answer_is_return at19 k s v op m q M log returns same old = old ∙ sym (no_return_at_line_nineteen k M.Ra q returns)
+  answer_is_return at19 k s v op m q M log returns same old = old ∙ sym (no_return_at_line_nineteen k M.RA q returns)
   answer_is_return at20 k s v op m q M log returns same old = one_more_given k same.leading old
   answer_is_return at22 k s v op m q M log returns same old = old
   answer_is_return at23 k s v op m q M log returns same old = old

@@ -32,7 +32,7 @@ all_numbered num looms (a ∷ acts) = numbered num looms a ∷ all_numbered num 
 -- The group with its log, and Figure 2's system, are in the same state.
 pub record SameState (looms : List Seat) (R : Rules) (G : Setting) (h : History) (F : System) : Type 0 where
   pub cell : h.group.shared.cell ≡ F.objects.O
-  pub leading : register h.group.shared R.leading ≡ number F.objects.Ra
+  pub leading : register h.group.shared R.leading ≡ number F.objects.RA
   pub yielding : register h.group.shared (other R.leading) ≡ number F.objects.RB
   pub place : (k : ℕ) → k < length looms → (loom_at h.group k).place ≡ place_of R.leading G (F.process k)
   pub answers : answers_of h.log ≡ returns_of F.returns
