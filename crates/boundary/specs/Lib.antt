@@ -6,6 +6,4 @@ pub mod Runs
 pub mod Records
 pub mod Readings
 pub mod EntriesLaws
-pub mod ReadRuns
-pub mod ReadRunsLaws
 pub mod Only

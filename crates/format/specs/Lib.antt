@@ -1,4 +1,3 @@
-pub mod AcceptedLaws
 pub mod CodedLaws
 pub mod Format
 pub mod FormatLaws

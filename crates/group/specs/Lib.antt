@@ -3,6 +3,5 @@ pub mod GroupLaws
 pub mod Step
 pub mod StepLaws
 pub mod Open
-pub mod OpenLaws
 pub mod ActsLaws
 pub mod Only

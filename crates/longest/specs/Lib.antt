@@ -1,2 +1,0 @@
-pub mod Longest
-pub mod LongestFile

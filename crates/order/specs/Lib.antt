@@ -3,7 +3,4 @@ pub mod LabelLaws
 pub mod Only
 pub mod Order
 pub mod OrderLaws
-pub mod ReadLaws
-pub mod ReadsPass
-pub mod ReadsPassLaws
 pub mod Worked

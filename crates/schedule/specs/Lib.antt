@@ -5,16 +5,7 @@ pub mod Run
 pub mod Counts
 pub mod ActsLaws
 pub mod PlayedLaws
-pub mod InPlaceLaws
 pub mod RunLaws
-pub mod BecameLaws
-pub mod CountsLaws
-pub mod LongestLaws
-pub mod AnswersLaws
 pub mod Only
 pub mod Events
-pub mod EventsLaws
-pub mod RunCountsLaws
-pub mod RunCounts
 pub mod SizeTwoRun
-pub mod DemandThreeOfRun

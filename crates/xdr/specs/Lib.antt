@@ -2,4 +2,3 @@ pub mod Field
 pub mod FieldLaws
 pub mod Only
 pub mod Opaque
-pub mod OpaqueLaws

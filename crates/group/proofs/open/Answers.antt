@@ -5,7 +5,7 @@ use Prim.Native.Nat.{ℕ}
 use lib.ListN.{length, length-map}
 use Rattle.cell.specs.Limits.{edition}
 use Rattle.group.specs.Open.{pieces, opened_by}
-use Rattle.group.specs.OpenLaws.{code_in, accepted_held}
+use Rattle.group.proofs.OpenLaws.{code_in, accepted_held}
 use Rattle.group.proofs.open.Goals as goal
 
 unmapped : (X Y : Type 0) (f : X → Y) (l : List X) (n : ℕ) → length (map f l) ≡ n → length l ≡ n

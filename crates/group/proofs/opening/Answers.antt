@@ -1,7 +1,7 @@
 -- `group::opening` meets its contract: the check's code, a number of 0, or the group.
 use mathlib.Core.Path.{ap, ◌∙◌}
 use Rattle.group.specs.Open.{opened}
-use Rattle.group.specs.OpenLaws.{open_judged, open_no_a, open_no_b, open_taken}
+use Rattle.group.proofs.OpenLaws.{open_judged, open_no_a, open_no_b, open_taken}
 use Rattle.group.proofs.opening.Goals as goal
 
 pub returns-then-judged-ne0 : goal.returns-then-judged-ne0

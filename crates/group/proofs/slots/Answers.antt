@@ -7,7 +7,7 @@ use lib.ListN.{set, length, replicate}
 use Rattle.cell.specs.Limits.{edition}
 use Rattle.group.specs.Group.{empty_loom}
 use Rattle.group.specs.Open.{slots_of}
-use Rattle.group.specs.OpenLaws.{slots_empty, slots_next}
+use Rattle.group.proofs.OpenLaws.{slots_empty, slots_next}
 use Rattle.group.proofs.slots.Goals as goal
 
 pub loop-i-init : goal.loop-i-init

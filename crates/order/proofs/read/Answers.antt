@@ -6,7 +6,7 @@ use Rattle.format.specs.declared.Judgement.{Judgement}
 use Rattle.format.specs.Format.{verdict_of}
 use Rattle.format.specs.Layout.{plan_of}
 use Rattle.order.specs.OrderLaws.{short_table, short_schedule, rooms_suffice, refused_reads}
-use Rattle.order.specs.ReadLaws.{file_bounds, reads}
+use Rattle.order.proofs.ReadLaws.{file_bounds, reads}
 use Rattle.order.proofs.read.Goals as goal
 
 pub returns-then-table-lt-TABLE : goal.returns-then-table-lt-TABLE

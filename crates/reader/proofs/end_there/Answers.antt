@@ -1,7 +1,7 @@
 -- `reader::end_there` meets its contract: the pad bytes follow the part's own, so the two reaches are one.
 use Rattle.std.proofs.Common.{sym, ◌∙◌}
-use Rattle.xdr.specs.OpaqueLaws.{part_takes, part_ends, bytes_end}
-use Rattle.reader.specs.ReaderLaws.{all_anything}
+use Rattle.xdr.proofs.OpaqueLaws.{part_takes, part_ends, bytes_end}
+use Rattle.reader.proofs.ReaderLaws.{all_anything}
 use Rattle.reader.proofs.end_there.Goals as goal
 
 pub returns-then-reaches-2 : goal.returns-then-reaches-2

@@ -1,6 +1,6 @@
 -- `reader::part_there` meets its contract: a part that is there lies within the file.
 use Rattle.std.proofs.Common.{sym, arith}
-use Rattle.reader.specs.ReaderLaws.{part_inside}
+use Rattle.reader.proofs.ReaderLaws.{part_inside}
 use Rattle.reader.proofs.part_there.Goals as goal
 
 pub overflow_add-end : goal.overflow_add-end

@@ -6,7 +6,7 @@ use native.Mathlib.Omega.{arith}
 use borrow.Author.Rules.{rules}
 use lib.ListN.{length, drop, length-set}
 use Rattle.sets.specs.SetsLaws.{union_is}
-use Rattle.recording.specs.FillLaws.{fill_more, union_more}
+use Rattle.recording.proofs.FillLaws.{fill_more, union_more}
 use Rattle.recording.specs.Fitting.{seats_of, words_to, word_by}
 use Rattle.recording.specs.FittingLaws.{seats_length}
 use Rattle.recording.specs.Words.{union_of, filled}

@@ -8,7 +8,7 @@ use lib.ListN.{length, take, drop, length-take}
 use Rattle.cell.specs.Limits.{edition}
 use Rattle.recording.specs.declared.Seat.{Seat}
 use Rattle.recording.specs.Check.{looms_of}
-use Rattle.recording.specs.FillLaws.{words_length, two_parts, set_is}
+use Rattle.recording.proofs.FillLaws.{words_length, two_parts, set_is}
 use Rattle.recording.specs.Fitting.{Fitting, seats_of, words_to, filled_sets}
 use Rattle.recording.specs.FittingLaws.{rows_are_looms, sides_as_many, operations_as_many}
 use Rattle.recording.specs.Words.{union_of}

@@ -11,7 +11,7 @@ use Rattle.recording.specs.Fitting.{Steps, seated, seats_of, word_by, added_by}
 use Rattle.recording.specs.FittingLaws.{word_more, word_skips, seats_length, seat_at_lem}
 use Rattle.recording.specs.OrdersLaws.{single_within}
 use Rattle.recording.specs.Recording.{empty_seat}
-use Rattle.recording.specs.WalkLaws.{LeftFrom, all_left, NextLoom, lowest_has, next_loom, left_behind, none_left}
+use Rattle.recording.proofs.WalkLaws.{LeftFrom, all_left, NextLoom, lowest_has, next_loom, left_behind, none_left}
 use Rattle.recording.specs.Words.{word_from}
 use Rattle.recording.proofs.word.Goals as goal
 

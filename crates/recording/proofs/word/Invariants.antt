@@ -3,7 +3,7 @@ use Prim.Native.Nat.{ℕ, ◌-◌, ◌≤◌}
 use mathlib.Core.Path.{◌≡◌}
 use lib.ListN.{length}
 use Rattle.recording.specs.Fitting.{seats_of, word_by}
-use Rattle.recording.specs.WalkLaws.{LeftFrom}
+use Rattle.recording.proofs.WalkLaws.{LeftFrom}
 use Rattle.recording.proofs.word.Given as goal
 
 abbrev pub invariant-loop-left : goal.invariant-loop-left

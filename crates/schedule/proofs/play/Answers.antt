@@ -13,7 +13,7 @@ use Rattle.schedule.specs.Acts.{act_of, is_named}
 use Rattle.schedule.specs.Played.{acted_of, played_of}
 use Rattle.schedule.specs.PlayedLaws.{Turned, within_none, within_next, played_next, marks_next, bytes_after, played_past, marks_all}
 use Rattle.schedule.specs.InPlace.{acted_by, come_to, Fitting, ran_by}
-use Rattle.schedule.specs.InPlaceLaws.{lead_kept, counted_apart, acted_alike, each_named, named_restart, kept_by_acted, restart_in_place, all_in_place, fitting_after, fitting_few, fitting_loom, answered_in_place, taken_in_place}
+use Rattle.schedule.proofs.InPlaceLaws.{lead_kept, counted_apart, acted_alike, each_named, named_restart, kept_by_acted, restart_in_place, all_in_place, fitting_after, fitting_few, fitting_loom, answered_in_place, taken_in_place}
 use Rattle.schedule.proofs.play.Goals as goal
 use Rattle.schedule.proofs.play.Goals.{then-at-count+in-Refused, then-at-count+in-To, else-at-count+then-entry-eq-ALL, else-at-count+else-entry-eq-ALL}
 

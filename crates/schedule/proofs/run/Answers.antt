@@ -2,7 +2,7 @@
 use mathlib.Core.Path.{ap, ◌∙◌}
 use lib.ListN.{length}
 use Rattle.group.specs.Open.{pieces}
-use Rattle.schedule.specs.InPlaceLaws.{opened_fitting}
+use Rattle.schedule.proofs.InPlaceLaws.{opened_fitting}
 use Rattle.schedule.specs.Run.{ran_of, marked_of}
 use Rattle.schedule.proofs.run.Goals as goal
 

@@ -2,7 +2,7 @@
 use native.Mathlib.Omega.{arith}
 use mathlib.Core.Path.{refl, sym, ◌∙◌}
 use Rattle.xdr.specs.FieldLaws.{within_takes, within_low, within_high}
-use Rattle.xdr.specs.OpaqueLaws.{all_none, all_refuses, all_more}
+use Rattle.xdr.proofs.OpaqueLaws.{all_none, all_refuses, all_more}
 use Rattle.xdr.proofs.all_within.Goals as goal
 
 pub loop-left-init : goal.loop-left-init

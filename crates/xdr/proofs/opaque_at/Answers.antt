@@ -4,7 +4,7 @@ use lib.ListN.{length}
 use native.Mathlib.Omega.{arith}
 use mathlib.Core.Path.{sym, ◌∙◌}
 use borrow.Author.Tests.{leb-true}
-use Rattle.xdr.specs.OpaqueLaws.{part_takes, part_refuses, part_ends, bytes_end}
+use Rattle.xdr.proofs.OpaqueLaws.{part_takes, part_refuses, part_ends, bytes_end}
 use Rattle.xdr.proofs.opaque_at.Goals as goal
 
 pub overflow_add-rest : goal.overflow_add-rest

@@ -4,7 +4,7 @@ use native.Mathlib.Nat.{add-sub_cancel_left}
 use native.Mathlib.Omega.{arith}
 use mathlib.Core.Path.{sym, ap, ◌∙◌}
 use lib.ListN.{take, drop}
-use Rattle.xdr.specs.OpaqueLaws.{part_inside, part_outside}
+use Rattle.xdr.proofs.OpaqueLaws.{part_inside, part_outside}
 use Rattle.xdr.proofs.part_at.Goals as goal
 
 pub returns-then-count-file : goal.returns-then-count-file

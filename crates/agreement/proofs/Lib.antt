@@ -1,0 +1,13 @@
+pub mod OrdersLaws
+pub mod TeamsLaws
+pub mod LogLaws
+pub mod PhasesLaws
+pub mod ToldLaws
+pub mod Agreement
+pub mod MachineLaws
+pub mod StepsLaws
+pub mod SixSteps
+pub mod MatchedLaws
+pub mod JoinedLaws
+pub mod FigureTwo
+pub mod Refused

@@ -1,0 +1,2 @@
+pub mod ReadRuns
+pub mod ReadRunsLaws

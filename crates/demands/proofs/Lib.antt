@@ -1,0 +1,13 @@
+pub mod KeptLaws
+pub mod FitsLaws
+pub mod PicturedLaws
+pub mod ActsLaws
+pub mod RendersLaws
+pub mod StepsLaws
+pub mod NewlyOpenedLaws
+pub mod OpenedLaws
+pub mod AlwaysFits
+pub mod DemandThree
+pub mod SixStepsOfGroup
+pub mod FigureOfGroup
+pub mod Examples

@@ -1,0 +1,10 @@
+pub mod Accepted
+pub mod AcceptedLaws
+pub mod AreaHolds
+pub mod AreaLaws
+pub mod CatalogueAccepted
+pub mod CatalogueSetsLaws
+pub mod FillLaws
+pub mod SetLaws
+pub mod VerdictLaws
+pub mod WalkLaws

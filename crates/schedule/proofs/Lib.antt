@@ -1,0 +1,9 @@
+pub mod InPlaceLaws
+pub mod BecameLaws
+pub mod CountsLaws
+pub mod LongestLaws
+pub mod AnswersLaws
+pub mod EventsLaws
+pub mod RunCountsLaws
+pub mod RunCounts
+pub mod DemandThreeOfRun
