@@ -17,6 +17,8 @@ WORD = re.compile(r"[\w'\u2080-\u2089\u25cc-]+")
 MADE = re.compile(r"^\s*\S+ : (?:\([^)]*\) → )?tie\.|^\s*(?:pub )?\S+ : \{M : Type 1\} → statement M")
 # Names with a word of the older library in them, and two lemmas on the digits of `bit_or` and `bit_and`.
 ODD = {"getD-each": "get_or_each", "bit-or": "bit-bit_or", "bit-and": "bit-bit_and", "machineSteps": "machine_steps"}
+# A register of Figure 2 that port.py took for a word of a library's.
+BACK = {"Ra": "RA"}
 # Lemmas that have the name of their function already.
 NAMED_SO = {"crates/boundary/specs/ReadRunsLaws.antt": ["all_named"], "crates/recording/specs/VerdictLaws.antt": ["comes_back"]}
 
@@ -70,6 +72,7 @@ def main():
             new = "only-" + name[5:]
         if new != name:
             turned[name] = new
+    turned.update(BACK)
     back = collections.defaultdict(set)
     for old, new in turned.items():
         back[new].add(old)

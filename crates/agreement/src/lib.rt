@@ -1,2 +1,3 @@
-// The theorems on the looms of a group: what they agree on, and when they answer. All of it is in specs/.
+// The theorems on the looms of a group: what they agree on, and when they answer. Definitions are in
+// specs/, theorems and laws in proofs/.
 #![tactic(auto)]

@@ -17,7 +17,7 @@ use Rattle.recording.specs.declared.Certificate.{Certificate}
 use Rattle.recording.specs.declared.Seat.{Seat}
 use Rattle.recording.proofs.AcceptedLaws.{set_is_Q}
 use Rattle.recording.specs.CatalogueCertificate.{follower, catalogue_looms, CatalogueCertificate}
-use Rattle.recording.specs.CatalogueOrdersLaws.{looms_counted, reaches_A, reaches_B, row_of_A, row_of_B}
+use Rattle.recording.proofs.CatalogueOrdersLaws.{looms_counted, reaches_A, reaches_B, row_of_A, row_of_B}
 use Rattle.recording.specs.Check.{looms_of, first_misfit, room_for, fault_of, judgement, set_by, judged_of}
 use Rattle.recording.specs.CheckLaws.{fault_looms, fault_none, judged_past}
 use Rattle.recording.specs.Known.{certificate_of}

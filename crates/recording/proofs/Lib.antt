@@ -8,3 +8,4 @@ pub mod FillLaws
 pub mod SetLaws
 pub mod VerdictLaws
 pub mod WalkLaws
+pub mod CatalogueOrdersLaws

@@ -1,6 +1,5 @@
 pub mod AdmittedLaws
 pub mod CatalogueCertificate
-pub mod CatalogueOrdersLaws
 pub mod Check
 pub mod CheckLaws
 pub mod Clauses

@@ -230,8 +230,8 @@ fn by_column(seats: [Seat; 8]) -> Columns
 // Writes the words of A and then those of B to the area, and answers the two sets. Later words stay as they were.
 fn fill_both(table: &[u8], states: usize, certificate: Certificate, area: &mut [u64]) -> Filled
     requires fitting { Fitting table.now states (looms_of certificate) certificate.start }
-    requires certificate_len { length (looms_of certificate) ≡ certificate.count }
-    requires count_in_bounds { room_for certificate.count ≤ length area.old }
+    requires counted { length (looms_of certificate) ≡ certificate.count }
+    requires room_enough { room_for certificate.count ≤ length area.old }
     ensures { (result ≡ sets_by table.now states certificate)
         × (area.new ≡ words_over table.now states certificate area.old) }
 {
@@ -277,8 +277,8 @@ fn fill(
     area: &mut [u64],
 ) -> u64
     requires fitting { Fitting table.now states (seats_of sides.now operations.now) start }
-    requires sides_len { length sides.now ≡ length operations.now }
-    requires size_value { (size ≡ 2 ^ length operations.now) × (size ≤ length area.old) }
+    requires as_many { length sides.now ≡ length operations.now }
+    requires sized { (size ≡ 2 ^ length operations.now) × (size ≤ length area.old) }
     ensures { (result ≡ union_of 0 (words_to table.now states (seats_of sides.now operations.now) start side size))
         × (area.new ≡ words_to table.now states (seats_of sides.now operations.now) start side size
         ++ drop size area.old) }
@@ -306,8 +306,8 @@ fn word(
     m: usize,
 ) -> u64
     requires fitting { Fitting table.now states (seats_of sides.now operations.now) start }
-    requires sides_len { length sides.now ≡ length operations.now }
-    requires m_bound { (m < 2 ^ length operations.now) × (m < length earlier.now) }
+    requires as_many { length sides.now ≡ length operations.now }
+    requires within { (m < 2 ^ length operations.now) × (m < length earlier.now) }
     ensures { result ≡ word_by table.now states (seats_of sides.now operations.now) start side earlier.now m
         (length operations.now) }
 {
@@ -342,7 +342,7 @@ fn last_by(
     lone: usize,
 ) -> u64
     requires steps { Steps table.now states seat.operation }
-    requires start_lt_states { (start < states) × (lone ≤ m) × (1 ≤ lone) × (m < length earlier.now) }
+    requires within { (start < states) × (lone ≤ m) × (1 ≤ lone) × (m < length earlier.now) }
     ensures { result ≡ added_by table.now states seat start side earlier.now m lone }
 {
     if m == lone {
@@ -354,7 +354,7 @@ fn last_by(
 // The state after the seat's operation at the start, alone in a set, for a seat of this side; else no state.
 fn first_by(table: &[u8], states: usize, seat: Seat, side: usize, start: usize) -> u64
     requires steps { Steps table.now states seat.operation }
-    requires start_lt_states { start < states }
+    requires within { start < states }
     ensures { result ≡ first_in table.now states seat side start }
 {
     if seat.side == side {
@@ -383,7 +383,7 @@ fn advance(table: &[u8], states: usize, operation: usize, set: u64) -> u64
 // A set with the state after an operation in state q put in.
 fn moved(table: &[u8], states: usize, operation: usize, q: usize, set: u64) -> u64
     requires steps { Steps table.now states operation }
-    requires q_lt_states { q < states }
+    requires within { q < states }
     ensures { result ≡ bit_or set (2 ^ entry_of table.now states operation q) }
 {
     match cell::next(table, states, operation, q) {

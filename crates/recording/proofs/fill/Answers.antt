@@ -20,21 +20,21 @@ pub word-w-requires : goal.word-w-requires
 word-w-requires c =
     let loop = c.loop-m in
     let long : length loop.area ≡ length c.args.area.now = loop.invariant.3 in
-    let within : loop.m < length loop.area = omega (arith, c.requires.size_value.1, c.loop-m-test.true) in
-    let small : loop.m < 2 ^ length c.args.operations.now = omega (arith, c.requires.size_value.0, c.loop-m-test.true) in
-    record { fitting = c.requires.fitting; sides_len = c.requires.sides_len; m_bound = (small, within) }
+    let within : loop.m < length loop.area = omega (arith, c.requires.sized.1, c.loop-m-test.true) in
+    let small : loop.m < 2 ^ length c.args.operations.now = omega (arith, c.requires.sized.0, c.loop-m-test.true) in
+    record { fitting = c.requires.fitting; as_many = c.requires.as_many; within = (small, within) }
 
 pub offset_bounds-area-m : goal.offset_bounds-area-m
 offset_bounds-area-m c =
-    omega (arith, c.well_formed, c.requires.size_value.1)
+    omega (arith, c.well_formed, c.requires.sized.1)
 
 pub bounds-area-m : goal.bounds-area-m
 bounds-area-m c =
-    omega (arith, c.requires.size_value.1, c.loop-m-test.true, c.loop-m.invariant.3)
+    omega (arith, c.requires.sized.1, c.loop-m-test.true, c.loop-m.invariant.3)
 
 pub overflow_add-m : goal.overflow_add-m
 overflow_add-m c =
-    omega (arith, c.well_formed, c.requires.size_value.1)
+    omega (arith, c.well_formed, c.requires.sized.1)
 
 pub loop-m-smaller : goal.loop-m-smaller
 loop-m-smaller c = omega arith
@@ -44,11 +44,11 @@ loop-m-preserved c =
     let args = c.args in
     let looms = seats_of args.sides.now args.operations.now in
     let loop = c.loop-m in
-    let within : loop.m < length args.area.now = omega (arith, c.requires.size_value.1, c.loop-m-test.true) in
+    let within : loop.m < length args.area.now = omega (arith, c.requires.sized.1, c.loop-m-test.true) in
     let made : c.word-w.result ≡ word_by args.table.now args.states looms args.start args.side loop.area loop.m (length looms) =
     c.word-w.ensures
     ∙ ap (word_by args.table.now args.states looms args.start args.side loop.area loop.m)
-    (sym (seats_length args.sides.now args.operations.now c.requires.sides_len)) in (
+    (sym (seats_length args.sides.now args.operations.now c.requires.as_many)) in (
       omega arith,
       fill_more args.table.now args.states looms args.start args.side loop.m args.area.now within
           loop.area loop.invariant.1 c.word-w.result made,

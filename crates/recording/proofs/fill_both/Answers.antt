@@ -16,13 +16,13 @@ use Rattle.recording.proofs.fill_both.Goals as goal
 
 pub power-size-requires : goal.power-size-requires
 power-size-requires c =
-    let few : c.args.certificate.count ≤ edition.looms = omega (arith, c.requires.fitting.few_looms, c.requires.certificate_len) in
+    let few : c.args.certificate.count ≤ edition.looms = omega (arith, c.requires.fitting.few_looms, c.requires.counted) in
     few
 
 pub slice_bounds-sides-end : goal.slice_bounds-sides-end
 slice_bounds-sides-end c =
     let many : length (take c.args.certificate.count c.by_column-by.result.operations) ≡ c.args.certificate.count =
-    operations_as_many c.args.certificate.count c.args.certificate.seats c.by_column-by.result c.by_column-by.ensures ∙ c.requires.certificate_len in
+    operations_as_many c.args.certificate.count c.args.certificate.seats c.by_column-by.result c.by_column-by.ensures ∙ c.requires.counted in
     let equally : length (take c.args.certificate.count c.by_column-by.result.sides)
     ≡ length (take c.args.certificate.count c.by_column-by.result.operations) =
     let args = c.args in
@@ -35,7 +35,7 @@ slice_bounds-sides-end c =
 pub slice_bounds-fill-end : goal.slice_bounds-fill-end
 slice_bounds-fill-end c =
     let many : length (take c.args.certificate.count c.by_column-by.result.operations) ≡ c.args.certificate.count =
-    operations_as_many c.args.certificate.count c.args.certificate.seats c.by_column-by.result c.by_column-by.ensures ∙ c.requires.certificate_len in
+    operations_as_many c.args.certificate.count c.args.certificate.seats c.by_column-by.result c.by_column-by.ensures ∙ c.requires.counted in
     let equally : length (take c.args.certificate.count c.by_column-by.result.sides)
     ≡ length (take c.args.certificate.count c.by_column-by.result.operations) =
     let args = c.args in
@@ -47,14 +47,14 @@ slice_bounds-fill-end c =
 pub slice_bounds-operations-end : goal.slice_bounds-operations-end
 slice_bounds-operations-end c =
     let many : length (take c.args.certificate.count c.by_column-by.result.operations) ≡ c.args.certificate.count =
-    operations_as_many c.args.certificate.count c.args.certificate.seats c.by_column-by.result c.by_column-by.ensures ∙ c.requires.certificate_len in
+    operations_as_many c.args.certificate.count c.args.certificate.seats c.by_column-by.result c.by_column-by.ensures ∙ c.requires.counted in
     let operations_reach : c.args.certificate.count ≤ length c.by_column-by.result.operations = omega (arith, many, length-take c.args.certificate.count c.by_column-by.result.operations) in
     operations_reach
 
 pub slice_bounds-fill-end-2 : goal.slice_bounds-fill-end-2
 slice_bounds-fill-end-2 c =
     let many : length (take c.args.certificate.count c.by_column-by.result.operations) ≡ c.args.certificate.count =
-    operations_as_many c.args.certificate.count c.args.certificate.seats c.by_column-by.result c.by_column-by.ensures ∙ c.requires.certificate_len in
+    operations_as_many c.args.certificate.count c.args.certificate.seats c.by_column-by.result c.by_column-by.ensures ∙ c.requires.counted in
     sym (many)
 
 pub fill-a-requires : goal.fill-a-requires
@@ -71,15 +71,15 @@ fill-a-requires c =
     c.args.certificate.start =
     subst (λ (ls : List Seat). Fitting c.args.table.now c.args.states ls c.args.certificate.start) (sym (looms)) c.requires.fitting in
     let many : length (take c.args.certificate.count c.by_column-by.result.operations) ≡ c.args.certificate.count =
-    operations_as_many c.args.certificate.count c.args.certificate.seats c.by_column-by.result c.by_column-by.ensures ∙ c.requires.certificate_len in
+    operations_as_many c.args.certificate.count c.args.certificate.seats c.by_column-by.result c.by_column-by.ensures ∙ c.requires.counted in
     let sized : c.power-size.result ≡ 2 ^ length (take c.args.certificate.count c.by_column-by.result.operations) = c.power-size.ensures ∙ ap (λ (n : ℕ). 2 ^ n) (sym (many)) in
-    let room : c.power-size.result ≤ length c.args.area.now = omega (arith, c.requires.count_in_bounds, c.power-size.ensures) in
-    record { fitting = fits; sides_len = equally; size_value = (sized, room) }
+    let room : c.power-size.result ≤ length c.args.area.now = omega (arith, c.requires.room_enough, c.power-size.ensures) in
+    record { fitting = fits; as_many = equally; sized = (sized, room) }
 
 pub slice_bounds-sides-end-2 : goal.slice_bounds-sides-end-2
 slice_bounds-sides-end-2 c =
     let many : length (take c.args.certificate.count c.by_column-by.result.operations) ≡ c.args.certificate.count =
-    operations_as_many c.args.certificate.count c.args.certificate.seats c.by_column-by.result c.by_column-by.ensures ∙ c.requires.certificate_len in
+    operations_as_many c.args.certificate.count c.args.certificate.seats c.by_column-by.result c.by_column-by.ensures ∙ c.requires.counted in
     let equally : length (take c.args.certificate.count c.by_column-by.result.sides)
     ≡ length (take c.args.certificate.count c.by_column-by.result.operations) =
     let args = c.args in
@@ -92,7 +92,7 @@ slice_bounds-sides-end-2 c =
 pub slice_bounds-fill-end-3 : goal.slice_bounds-fill-end-3
 slice_bounds-fill-end-3 c =
     let many : length (take c.args.certificate.count c.by_column-by.result.operations) ≡ c.args.certificate.count =
-    operations_as_many c.args.certificate.count c.args.certificate.seats c.by_column-by.result c.by_column-by.ensures ∙ c.requires.certificate_len in
+    operations_as_many c.args.certificate.count c.args.certificate.seats c.by_column-by.result c.by_column-by.ensures ∙ c.requires.counted in
     let equally : length (take c.args.certificate.count c.by_column-by.result.sides)
     ≡ length (take c.args.certificate.count c.by_column-by.result.operations) =
     let args = c.args in
@@ -104,14 +104,14 @@ slice_bounds-fill-end-3 c =
 pub slice_bounds-operations-end-2 : goal.slice_bounds-operations-end-2
 slice_bounds-operations-end-2 c =
     let many : length (take c.args.certificate.count c.by_column-by.result.operations) ≡ c.args.certificate.count =
-    operations_as_many c.args.certificate.count c.args.certificate.seats c.by_column-by.result c.by_column-by.ensures ∙ c.requires.certificate_len in
+    operations_as_many c.args.certificate.count c.args.certificate.seats c.by_column-by.result c.by_column-by.ensures ∙ c.requires.counted in
     let operations_reach : c.args.certificate.count ≤ length c.by_column-by.result.operations = omega (arith, many, length-take c.args.certificate.count c.by_column-by.result.operations) in
     operations_reach
 
 pub slice_bounds-fill-end-4 : goal.slice_bounds-fill-end-4
 slice_bounds-fill-end-4 c =
     let many : length (take c.args.certificate.count c.by_column-by.result.operations) ≡ c.args.certificate.count =
-    operations_as_many c.args.certificate.count c.args.certificate.seats c.by_column-by.result c.by_column-by.ensures ∙ c.requires.certificate_len in
+    operations_as_many c.args.certificate.count c.args.certificate.seats c.by_column-by.result c.by_column-by.ensures ∙ c.requires.counted in
     sym (many)
 
 pub fill-b-requires : goal.fill-b-requires
@@ -128,9 +128,9 @@ fill-b-requires c =
     c.args.certificate.start =
     subst (λ (ls : List Seat). Fitting c.args.table.now c.args.states ls c.args.certificate.start) (sym (looms)) c.requires.fitting in
     let many : length (take c.args.certificate.count c.by_column-by.result.operations) ≡ c.args.certificate.count =
-    operations_as_many c.args.certificate.count c.args.certificate.seats c.by_column-by.result c.by_column-by.ensures ∙ c.requires.certificate_len in
+    operations_as_many c.args.certificate.count c.args.certificate.seats c.by_column-by.result c.by_column-by.ensures ∙ c.requires.counted in
     let sized : c.power-size.result ≡ 2 ^ length (take c.args.certificate.count c.by_column-by.result.operations) = c.power-size.ensures ∙ ap (λ (n : ℕ). 2 ^ n) (sym (many)) in
-    record { fitting = fits; sides_len = equally; size_value = (sized, search rules) }
+    record { fitting = fits; as_many = equally; sized = (sized, search rules) }
 
 pub returns : goal.returns
 returns c =
@@ -144,9 +144,9 @@ returns c =
     let size = power.result in (
       ap₂ (λ (a b : ℕ). filled_sets a b)
           (one.ensures.0 ∙ ap (λ (ls : List Seat). union_of 0 (words_to args.table.now args.states ls args.certificate.start 0 size)) (looms)
-          ∙ set_is args.table.now args.states args.certificate c.requires.certificate_len 0 size power.ensures)
+          ∙ set_is args.table.now args.states args.certificate c.requires.counted 0 size power.ensures)
           (two.ensures.0 ∙ ap (λ (ls : List Seat). union_of 0 (words_to args.table.now args.states ls args.certificate.start 1 size)) (looms)
-          ∙ set_is args.table.now args.states args.certificate c.requires.certificate_len 1 size power.ensures),
+          ∙ set_is args.table.now args.states args.certificate c.requires.counted 1 size power.ensures),
       two_parts (words_to args.table.now args.states (looms_of args.certificate) args.certificate.start 0 size)
           (words_to args.table.now args.states (looms_of args.certificate) args.certificate.start 1 size) args.area.now
           first two.new.area size

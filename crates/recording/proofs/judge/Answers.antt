@@ -30,8 +30,8 @@ fill_both-filled-requires c =
     let args = c.args in
     let ok = admitted args.table.now args.states args.operations args.certificate (length args.area.now) (past) in record {
       fitting = fitting args.table.now args.states args.operations args.certificate (length args.area.now) ok;
-      certificate_len = counted args.table.now args.states args.operations args.certificate (length args.area.now) ok;
-      count_in_bounds = ok.enough;
+      counted = counted args.table.now args.states args.operations args.certificate (length args.area.now) ok;
+      room_enough = ok.enough;
     }
 
 pub verdict_on-requires : goal.verdict_on-requires

@@ -21,100 +21,100 @@ loop-left-init c = (0, omega arith, all_left _, refl)
 
 pub power-lone-requires : goal.power-lone-requires
 power-lone-requires c =
-    let few : length c.args.operations.now ≤ edition.looms = omega (arith, c.requires.fitting.few_looms, seats_length c.args.sides.now c.args.operations.now c.requires.sides_len) in
+    let few : length c.args.operations.now ≤ edition.looms = omega (arith, c.requires.fitting.few_looms, seats_length c.args.sides.now c.args.operations.now c.requires.as_many) in
     let next : NextLoom c.args.m (length c.args.operations.now) c.loop-left.invariant.0 c.lowest-j.result =
     let loop = c.loop-left in
-    next_loom c.args.m (length c.args.operations.now) loop.invariant.0 loop.left c.requires.m_bound.0 (omega (arith, few))
+    next_loom c.args.m (length c.args.operations.now) loop.invariant.0 loop.left c.requires.within.0 (omega (arith, few))
     loop.invariant.2 c.loop-left-test.true c.lowest-j.result c.lowest-j.ensures in
     omega (arith, (next).within, few)
 
 pub offset_bounds-sides-j : goal.offset_bounds-sides-j
 offset_bounds-sides-j c =
-    let few : length c.args.operations.now ≤ edition.looms = omega (arith, c.requires.fitting.few_looms, seats_length c.args.sides.now c.args.operations.now c.requires.sides_len) in
+    let few : length c.args.operations.now ≤ edition.looms = omega (arith, c.requires.fitting.few_looms, seats_length c.args.sides.now c.args.operations.now c.requires.as_many) in
     let next : NextLoom c.args.m (length c.args.operations.now) c.loop-left.invariant.0 c.lowest-j.result =
     let loop = c.loop-left in
-    next_loom c.args.m (length c.args.operations.now) loop.invariant.0 loop.left c.requires.m_bound.0 (omega (arith, few))
+    next_loom c.args.m (length c.args.operations.now) loop.invariant.0 loop.left c.requires.within.0 (omega (arith, few))
     loop.invariant.2 c.loop-left-test.true c.lowest-j.result c.lowest-j.ensures in
     omega (arith, (next).within, few)
 
 pub bounds-sides-j : goal.bounds-sides-j
 bounds-sides-j c =
-    let few : length c.args.operations.now ≤ edition.looms = omega (arith, c.requires.fitting.few_looms, seats_length c.args.sides.now c.args.operations.now c.requires.sides_len) in
+    let few : length c.args.operations.now ≤ edition.looms = omega (arith, c.requires.fitting.few_looms, seats_length c.args.sides.now c.args.operations.now c.requires.as_many) in
     let next : NextLoom c.args.m (length c.args.operations.now) c.loop-left.invariant.0 c.lowest-j.result =
     let loop = c.loop-left in
-    next_loom c.args.m (length c.args.operations.now) loop.invariant.0 loop.left c.requires.m_bound.0 (omega (arith, few))
+    next_loom c.args.m (length c.args.operations.now) loop.invariant.0 loop.left c.requires.within.0 (omega (arith, few))
     loop.invariant.2 c.loop-left-test.true c.lowest-j.result c.lowest-j.ensures in
-    omega (arith, (next).within, c.requires.sides_len)
+    omega (arith, (next).within, c.requires.as_many)
 
 pub offset_bounds-operations-j : goal.offset_bounds-operations-j
 offset_bounds-operations-j c =
-    let few : length c.args.operations.now ≤ edition.looms = omega (arith, c.requires.fitting.few_looms, seats_length c.args.sides.now c.args.operations.now c.requires.sides_len) in
+    let few : length c.args.operations.now ≤ edition.looms = omega (arith, c.requires.fitting.few_looms, seats_length c.args.sides.now c.args.operations.now c.requires.as_many) in
     let next : NextLoom c.args.m (length c.args.operations.now) c.loop-left.invariant.0 c.lowest-j.result =
     let loop = c.loop-left in
-    next_loom c.args.m (length c.args.operations.now) loop.invariant.0 loop.left c.requires.m_bound.0 (omega (arith, few))
+    next_loom c.args.m (length c.args.operations.now) loop.invariant.0 loop.left c.requires.within.0 (omega (arith, few))
     loop.invariant.2 c.loop-left-test.true c.lowest-j.result c.lowest-j.ensures in
     omega (arith, (next).within, few)
 
 pub bounds-operations-j : goal.bounds-operations-j
 bounds-operations-j c =
-    let few : length c.args.operations.now ≤ edition.looms = omega (arith, c.requires.fitting.few_looms, seats_length c.args.sides.now c.args.operations.now c.requires.sides_len) in
+    let few : length c.args.operations.now ≤ edition.looms = omega (arith, c.requires.fitting.few_looms, seats_length c.args.sides.now c.args.operations.now c.requires.as_many) in
     let next : NextLoom c.args.m (length c.args.operations.now) c.loop-left.invariant.0 c.lowest-j.result =
     let loop = c.loop-left in
-    next_loom c.args.m (length c.args.operations.now) loop.invariant.0 loop.left c.requires.m_bound.0 (omega (arith, few))
+    next_loom c.args.m (length c.args.operations.now) loop.invariant.0 loop.left c.requires.within.0 (omega (arith, few))
     loop.invariant.2 c.loop-left-test.true c.lowest-j.result c.lowest-j.ensures in
     (next).within
 
 pub last_by-requires : goal.last_by-requires
 last_by-requires c =
-    let few : length c.args.operations.now ≤ edition.looms = omega (arith, c.requires.fitting.few_looms, seats_length c.args.sides.now c.args.operations.now c.requires.sides_len) in
+    let few : length c.args.operations.now ≤ edition.looms = omega (arith, c.requires.fitting.few_looms, seats_length c.args.sides.now c.args.operations.now c.requires.as_many) in
     let next : NextLoom c.args.m (length c.args.operations.now) c.loop-left.invariant.0 c.lowest-j.result =
     let loop = c.loop-left in
-    next_loom c.args.m (length c.args.operations.now) loop.invariant.0 loop.left c.requires.m_bound.0 (omega (arith, few))
+    next_loom c.args.m (length c.args.operations.now) loop.invariant.0 loop.left c.requires.within.0 (omega (arith, few))
     loop.invariant.2 c.loop-left-test.true c.lowest-j.result c.lowest-j.ensures in
     let seat : get_or (seats_of c.args.sides.now c.args.operations.now) c.lowest-j.result empty_seat
-    ≡ seated (get_or c.args.sides.now c.lowest-j.result 0) (get_or c.args.operations.now c.lowest-j.result 0) = seat_at_lem c.args.sides.now c.args.operations.now _ c.requires.sides_len (next).within in
+    ≡ seated (get_or c.args.sides.now c.lowest-j.result 0) (get_or c.args.operations.now c.lowest-j.result 0) = seat_at_lem c.args.sides.now c.args.operations.now _ c.requires.as_many (next).within in
     let power = c.power-lone.ensures in
     let loom = next in
-    let many = seats_length c.args.sides.now c.args.operations.now c.requires.sides_len in record {
+    let many = seats_length c.args.sides.now c.args.operations.now c.requires.as_many in record {
       steps = subst (λ (l : Seat). Steps c.args.table.now c.args.states l.operation) (seat)
           (c.requires.fitting.steps _ (omega (arith, loom.within, many)));
-      start_lt_states = (
+      within = (
         c.requires.fitting.start_fits,
         omega (arith, power, single_within _ _ loom.has),
         omega (arith, power, pow_pos c.lowest-j.result),
-        c.requires.m_bound.1,
+        c.requires.within.1,
       );
     }
 
 pub overflow_sub-left : goal.overflow_sub-left
 overflow_sub-left c =
-    let few : length c.args.operations.now ≤ edition.looms = omega (arith, c.requires.fitting.few_looms, seats_length c.args.sides.now c.args.operations.now c.requires.sides_len) in
+    let few : length c.args.operations.now ≤ edition.looms = omega (arith, c.requires.fitting.few_looms, seats_length c.args.sides.now c.args.operations.now c.requires.as_many) in
     let alone : 2 ^ c.lowest-j.result ≤ c.loop-left.left =
     let loop = c.loop-left in
     single_within loop.left c.lowest-j.result
-    (lowest_has c.args.m (length c.args.operations.now) loop.invariant.0 loop.left c.requires.m_bound.0 (omega (arith, few))
+    (lowest_has c.args.m (length c.args.operations.now) loop.invariant.0 loop.left c.requires.within.0 (omega (arith, few))
     loop.invariant.2 c.loop-left-test.true c.lowest-j.result c.lowest-j.ensures) in
     omega (arith, c.power-lone.ensures, alone)
 
 pub loop-left-smaller : goal.loop-left-smaller
 loop-left-smaller c =
-    let few : length c.args.operations.now ≤ edition.looms = omega (arith, c.requires.fitting.few_looms, seats_length c.args.sides.now c.args.operations.now c.requires.sides_len) in
+    let few : length c.args.operations.now ≤ edition.looms = omega (arith, c.requires.fitting.few_looms, seats_length c.args.sides.now c.args.operations.now c.requires.as_many) in
     let alone : 2 ^ c.lowest-j.result ≤ c.loop-left.left =
     let loop = c.loop-left in
     single_within loop.left c.lowest-j.result
-    (lowest_has c.args.m (length c.args.operations.now) loop.invariant.0 loop.left c.requires.m_bound.0 (omega (arith, few))
+    (lowest_has c.args.m (length c.args.operations.now) loop.invariant.0 loop.left c.requires.within.0 (omega (arith, few))
     loop.invariant.2 c.loop-left-test.true c.lowest-j.result c.lowest-j.ensures) in
     omega (arith, c.power-lone.ensures, alone, pow_pos c.lowest-j.result)
 
 pub loop-left-preserved : goal.loop-left-preserved
 loop-left-preserved c =
-    let few : length c.args.operations.now ≤ edition.looms = omega (arith, c.requires.fitting.few_looms, seats_length c.args.sides.now c.args.operations.now c.requires.sides_len) in
+    let few : length c.args.operations.now ≤ edition.looms = omega (arith, c.requires.fitting.few_looms, seats_length c.args.sides.now c.args.operations.now c.requires.as_many) in
     let next : NextLoom c.args.m (length c.args.operations.now) c.loop-left.invariant.0 c.lowest-j.result =
     let loop = c.loop-left in
-    next_loom c.args.m (length c.args.operations.now) loop.invariant.0 loop.left c.requires.m_bound.0 (omega (arith, few))
+    next_loom c.args.m (length c.args.operations.now) loop.invariant.0 loop.left c.requires.within.0 (omega (arith, few))
     loop.invariant.2 c.loop-left-test.true c.lowest-j.result c.lowest-j.ensures in
     let seat : get_or (seats_of c.args.sides.now c.args.operations.now) c.lowest-j.result empty_seat
-    ≡ seated (get_or c.args.sides.now c.lowest-j.result 0) (get_or c.args.operations.now c.lowest-j.result 0) = seat_at_lem c.args.sides.now c.args.operations.now _ c.requires.sides_len (next).within in
+    ≡ seated (get_or c.args.sides.now c.lowest-j.result 0) (get_or c.args.operations.now c.lowest-j.result 0) = seat_at_lem c.args.sides.now c.args.operations.now _ c.requires.as_many (next).within in
     let args = c.args in
     let power = c.power-lone in
     let loop = c.loop-left in
@@ -122,7 +122,7 @@ loop-left-preserved c =
       c.lowest-j.result + 1,
       omega (arith, loom.within),
       subst (λ (x : ℕ). LeftFrom args.m (c.lowest-j.result + 1) (loop.left - x)) (sym power.ensures)
-          (left_behind args.m (length args.operations.now) loop.invariant.0 loop.left c.requires.m_bound.0 (omega (arith, few)) loop.invariant.2
+          (left_behind args.m (length args.operations.now) loop.invariant.0 loop.left c.requires.within.0 (omega (arith, few)) loop.invariant.2
           c.loop-left-test.true c.lowest-j.result c.lowest-j.ensures),
       union_is loop.set c.last_by.result c.union-set.result c.union-set.ensures
           ∙ word_more args.table.now args.states (seats_of args.sides.now args.operations.now) args.start args.side
