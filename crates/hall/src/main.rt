@@ -4,10 +4,10 @@
 
 mod print;
 
-use libc::{STDERR_FILENO, STDIN_FILENO};
 use order::Order;
 use recording::Certificate;
 use schedule::Ran;
+use std::io::Read;
 
 // One byte more than the longest file: whatever follows, a longer file is refused within it.
 const READ: usize = 20649;
@@ -20,22 +20,21 @@ enum Taken {
 }
 
 // Reads once into the rest of the room.
-fn read_more(room: &mut [u8], n: usize) -> Taken {
+fn read_more(input: &mut impl Read, room: &mut [u8], n: usize) -> Taken {
     if room.len() < n {
         return Taken::Failed;
     }
-    let got = libc::read(STDIN_FILENO, &mut room[n..]);
-    if got < 0 {
-        return Taken::Failed;
+    match input.read(&mut room[n..]) {
+        Ok(got) => Taken::Bytes(got),
+        Err(_) => Taken::Failed,
     }
-    Taken::Bytes(io::count(got, room))
 }
 
 // Reads until the room is full or the input ends.
-fn take_in(room: &mut [u8]) -> Taken {
+fn take_in(input: &mut impl Read, room: &mut [u8]) -> Taken {
     let mut n = 0;
     while n < room.len() {
-        match read_more(room, n) {
+        match read_more(input, room, n) {
             Taken::Failed => {
                 return Taken::Failed;
             }
@@ -64,22 +63,22 @@ fn certificate_of(order: Order) -> Certificate {
 }
 
 // The last line: the winner's label, or that there is no answer.
-fn winner_line(file: &[u8], order: Order, ran: Ran) -> bool {
+fn winner_line(rt: &impl Print, file: &[u8], order: Order, ran: Ran) -> bool {
     let a = order.a;
     let b = order.b;
     if ran.a == 0 {
         if ran.b == 0 {
-            return print::none_line();
+            return print::none_line(rt);
         }
     }
     let side = if ran.a == 0 { 1 } else { 0 };
     let label_a = xdr::part_at(file, a.at, a.length);
     let label_b = xdr::part_at(file, b.at, b.length);
-    print::piece_line(order::label(label_a, label_b, side))
+    print::piece_line(rt, order::label(label_a, label_b, side))
 }
 
 // Prints what an order that was read comes to. Answers whether all was written.
-fn ordered(file: &[u8], order: Order, table: &[u8], schedule: &[u8]) -> bool {
+fn ordered(rt: &impl Print, file: &[u8], order: Order, table: &[u8], schedule: &[u8]) -> bool {
     let mut area = [0u64; 512];
     let certificate = certificate_of(order);
     let checked = recording::check(
@@ -89,7 +88,7 @@ fn ordered(file: &[u8], order: Order, table: &[u8], schedule: &[u8]) -> bool {
         certificate,
         &mut area,
     );
-    if !print::check_line(checked) {
+    if !print::check_line(rt, checked) {
         return false;
     }
     if checked.code != 0 {
@@ -109,20 +108,21 @@ fn ordered(file: &[u8], order: Order, table: &[u8], schedule: &[u8]) -> bool {
         &mut marks,
         &mut area,
     );
-    print::run_line(ran)
-        && print::marks_line(xdr::part_at(&marks, 0, ran.entries))
-        && winner_line(file, order, ran)
+    print::run_line(rt, ran)
+        && print::marks_line(rt, xdr::part_at(&marks, 0, ran.entries))
+        && winner_line(rt, file, order, ran)
 }
 
 // Prints what a file comes to. Answers whether all was written.
-fn report(file: &[u8]) -> bool {
+fn report(rt: &impl Print, file: &[u8]) -> bool {
     let mut table = [0u8; 1024];
     let mut schedule = [0u8; 4096];
     let order = order::read(file, &mut table, &mut schedule);
     if order.code != 0 {
-        return print::file_line(order.code, order.place);
+        return print::file_line(rt, order.code, order.place);
     }
     ordered(
+        rt,
         file,
         order,
         xdr::part_at(&table, 0, order.entries),
@@ -130,15 +130,15 @@ fn report(file: &[u8]) -> bool {
     )
 }
 
-fn main() {
+fn main(rt: HostRuntime) {
     let mut file = [0u8; READ];
-    match take_in(&mut file) {
+    match take_in(&mut rt.stdin(), &mut file) {
         Taken::Failed => {
-            io::write_all(STDERR_FILENO, b"hall: standard input can't be read\n");
+            let _ = rt.eprintln("hall: standard input can't be read");
         }
         Taken::Bytes(n) => {
-            if !report(xdr::part_at(&file, 0, n)) {
-                io::write_all(STDERR_FILENO, b"hall: standard output can't be written\n");
+            if !report(&rt, xdr::part_at(&file, 0, n)) {
+                let _ = rt.eprintln("hall: standard output can't be written");
             }
         }
     }
