@@ -1,6 +1,6 @@
 -- A file that reads with code 0 gets past 12, 13 and 40 of a run: the two say alike what a schedule is.
 -- Assumes nothing.
-use Rattle.std.specs.Prelude.{ℕ, ◌+◌, ◌≤◌, ◌≡◌, List, take}
+use Rattle.std.specs.Prelude.{ℕ, ◌≤◌, ◌≡◌, List, take}
 use Rattle.std.proofs.Common.{sym, subst}
 use Rattle.cell.specs.Limits.{edition}
 use Rattle.format.specs.Layout.{plan_of}

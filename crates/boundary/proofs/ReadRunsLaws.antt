@@ -1,7 +1,7 @@
 -- The schedule of a file that is taken: every entry names an act, and there aren't too many.
 -- Assumes nothing.
 use Rattle.std.specs.Prelude.{ℕ, zero, suc, ◌+◌, ◌*◌, ◌≤◌, ◌<◌, ◌≡◌, refl, true, List, length}
-use Rattle.std.proofs.Common.{sym, ap, subst, ◌∙◌, suc-mul, zero-mul, arith, le-ltb}
+use Rattle.std.proofs.Common.{sym, subst, ◌∙◌, suc-mul, zero-mul, arith, le-ltb}
 use Rattle.cell.specs.Limits.{edition}
 use Rattle.xdr.specs.Field.{word_at}
 use Rattle.xdr.specs.FieldLaws.{field_taken, run_taken}

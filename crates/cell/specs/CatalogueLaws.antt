@@ -1,6 +1,6 @@
 -- What the catalogue cell's operations do, for any n, and what stands in its table.
 -- Assumes nothing.
-use Rattle.std.specs.Prelude.{ℕ, zero, suc, ◌+◌, ◌-◌, ◌*◌, ◌≤◌, ◌<◌, ◌≡◌, refl, ◌⊎◌, Bool, true, false, cond, List, [], ◌∷◌, ◌++◌, ltb, length, get_or, drop}
+use Rattle.std.specs.Prelude.{ℕ, zero, suc, ◌+◌, ◌-◌, ◌*◌, ◌≤◌, ◌<◌, ◌≡◌, refl, Bool, true, false, cond, List, [], ◌∷◌, ◌++◌, ltb, length, get_or, drop}
 use Rattle.std.proofs.Common.{sym, ap, ap₂, subst, ◌∙◌, ⊎_elim, add-zero, eq-or-lt_of_le, le_of_suc-le-suc, not-suc-le-zero, zero-mul, one-mul, add-suc, suc-add, suc-ne-zero, add-one, arith, length-append, get_or-append-add}
 use Rattle.std.proofs.Math.Nat.{add-sub_cancel_left, le_dest}
 use Rattle.std.proofs.Math.Decide.{dec_lt}

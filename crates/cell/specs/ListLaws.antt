@@ -1,6 +1,6 @@
 -- Laws of lists that a loop over lent room wants.
 -- Assumes nothing.
-use Rattle.std.specs.Prelude.{ℕ, suc, ◌+◌, ◌<◌, ◌≡◌, List, ◌++◌, length, get_or, set, take, drop}
+use Rattle.std.specs.Prelude.{ℕ, suc, ◌<◌, ◌≡◌, List, ◌++◌, length, get_or, set, take, drop}
 use Rattle.std.proofs.Common.{sym, ap, ◌∙◌, le_of_lt, take-suc, drop-cons, length-take-le}
 use Rattle.std.proofs.lemmas.List.{set_at}
 use Rattle.std.proofs.Math.Seq.{append_snoc, take-length}

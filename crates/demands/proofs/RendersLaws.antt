@@ -6,7 +6,6 @@ use Rattle.std.proofs.lemmas.Bool.{eqb-false}
 use Rattle.sets.specs.Sets.{has_of}
 use Rattle.recording.specs.declared.Seat.{Seat}
 use Rattle.recording.specs.Recording.{InSet, Recording}
-use Rattle.loom.specs.declared.Side.{Side}
 use Rattle.loom.specs.declared.Side.TheVariants.{A, B}
 use Rattle.loom.specs.Sides.{side_number}
 use Rattle.loom.specs.SidesLaws.{other_other}

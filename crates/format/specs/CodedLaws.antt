@@ -1,6 +1,6 @@
 -- A file is never refused with code 0.
 -- Assumes nothing.
-use Rattle.std.specs.Prelude.{ℕ, zero, suc, ◌+◌, ◌*◌, ◌≤◌, Bool, true, false, ◌&&◌, List, leb, ltb, length}
+use Rattle.std.specs.Prelude.{ℕ, zero, suc, ◌+◌, ◌≤◌, Bool, true, false, ◌&&◌, List, leb, ltb, length}
 use Rattle.std.proofs.Common.{arith}
 use Rattle.cell.specs.Limits.{Limits}
 use Rattle.recording.specs.declared.Seat.{Seat}

@@ -1,7 +1,7 @@
 -- Laws of an opening: one for each way that it ends, and what an opened group is.
 -- Assumes nothing.
 use Rattle.std.specs.Prelude.{ℕ, zero, suc, ◌<◌, ◌≤◌, ◌≡◌, refl, List, [], ◌∷◌, length, get_or, set, replicate}
-use Rattle.std.proofs.Common.{arith, not-suc-le-zero, le_of_suc-le-suc, sym, ap, subst, ◌∙◌, get_or-take}
+use Rattle.std.proofs.Common.{arith, not-suc-le-zero, le_of_suc-le-suc, sym, ap, subst, get_or-take}
 use borrow.Author.Tests.{eq-eqb, ne_eqb}
 use Rattle.cell.specs.Limits.{edition}
 use Rattle.recording.specs.declared.Seat.{Seat}

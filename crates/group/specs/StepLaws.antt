@@ -1,6 +1,6 @@
 -- Laws of a step: one for each way that it ends.
 -- Assumes nothing.
-use Rattle.std.specs.Prelude.{ℕ, zero, suc, ◌*◌, ◌≤◌, ◌<◌, ◌≡◌, List, [], ◌∷◌, eqb, length, set, get_or}
+use Rattle.std.specs.Prelude.{ℕ, zero, suc, ◌*◌, ◌≤◌, ◌<◌, ◌≡◌, List, [], ◌∷◌, length, set, get_or}
 use Rattle.std.proofs.Common.{arith, suc-mul, mul_comm, mul-le-mul, le_refl, lt_of_lt_of_le, sym, subst, ◌∙◌}
 use Rattle.std.proofs.Math.Path.{refl, ap}
 use Rattle.std.proofs.Math.Bool.{Bool, true, false, cond}
@@ -19,9 +19,7 @@ use Rattle.loom.specs.LoomsLaws.{turned_of_next}
 use Rattle.group.specs.declared.Group.{Group}
 use Rattle.group.specs.declared.Permit.TheVariants.{Granted, Denied}
 use Rattle.group.specs.declared.Outcome.{Outcome}
-use Rattle.group.specs.declared.Stepped.{Stepped}
-use Rattle.group.specs.declared.Restarted.{Restarted}
-use Rattle.group.specs.Group.{empty_loom, loom_at, number_of, lead_of, group_rules, with_loom, with_shared, no_loom, restarted_at, restarted_below}
+use Rattle.group.specs.Group.{empty_loom, loom_at, number_of, lead_of, group_rules, no_loom, restarted_at, restarted_below}
 use Rattle.group.specs.Step.{is_unfit, fitted_of, permit_of, may_step, unmoved, taken, step_on_of, refused, settled, in_place, own_step, step_of, restarted, restart_of, restart_all_of}
 
 -- Whether group and table fit, one law for each way that it ends.

@@ -3,11 +3,10 @@
 use Rattle.std.specs.Prelude.{ℕ, zero, suc, ◌+◌, ◌*◌, ◌≤◌, ◌<◌, ◌≡◌, refl, Bool, true, false, cond, ◌&&◌, leb, ltb, length, get_or, take, drop}
 use Rattle.std.proofs.Common.{sym, ◌∙◌, le_of_suc-le-suc, not-suc-le-zero, suc-mul, zero-mul, arith, ltb-true, le-ltb}
 use Rattle.std.proofs.Math.Path.{ap, subst}
-use mathlib.Core.List.{List, [], ◌∷◌, ◌++◌}
+use mathlib.Core.List.{List}
 use Rattle.std.proofs.lemmas.Bool.{lt-leb}
 use Rattle.std.proofs.Math.Seq.{take_at}
 use Rattle.cell.specs.Limits.{edition}
-use Rattle.cell.specs.Table.{form_of}
 use Rattle.cell.specs.TableLaws.{HasForm, form_of_good}
 use Rattle.cell.specs.declared.Formed.{Formed}
 use Rattle.recording.specs.declared.Certificate.{Certificate}
@@ -21,7 +20,7 @@ use Rattle.xdr.specs.Field.{Passed, word_at, within, field_at}
 use Rattle.xdr.specs.FieldLaws.{then_both, run_taken, judged_taken}
 use Rattle.format.specs.declared.Plan.{Plan}
 use Rattle.format.specs.declared.Items.TheVariants.{Looms}
-use Rattle.format.proofs.AcceptedLaws.{Passes, Bounds, limits, bounds, file_taken}
+use Rattle.format.proofs.AcceptedLaws.{Passes, limits, bounds, file_taken}
 use Rattle.format.specs.CodedLaws.{Coded, refused, verdict_coded}
 use Rattle.format.specs.Format.{item_at, seat_at, seats_at, sides_at, verdict_of}
 use Rattle.format.specs.Layout.{plan_of}

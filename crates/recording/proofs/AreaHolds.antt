@@ -1,6 +1,6 @@
 -- The area after the check: document 01, "Cell and certificate", in the words of source document 003.
 -- Assumes nothing.
-use Rattle.std.specs.Prelude.{ℕ, ◌+◌, ◌*◌, ◌^◌, ◌≤◌, ◌<◌, ◌≡◌, ◌↔◌, List, length, get_or}
+use Rattle.std.specs.Prelude.{ℕ, ◌+◌, ◌^◌, ◌≤◌, ◌<◌, ◌≡◌, ◌↔◌, List, length, get_or}
 use Rattle.sets.specs.Sets.{Member}
 use Rattle.cell.specs.Table.{entry_of}
 use Rattle.recording.specs.declared.Certificate.{Certificate}

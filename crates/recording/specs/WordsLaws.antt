@@ -23,7 +23,7 @@ use Rattle.sets.specs.SetsLaws.{bit_small, bit_zero, bit_single_same}
 use Rattle.recording.specs.declared.Seat.{Seat}
 use Rattle.recording.specs.UnionLaws.{in_union, union_first, union_second, in_single, empty_has_none, member_below, union_below, single_below}
 use Rattle.recording.specs.OrdersLaws.{single_digits, single_within, without, alone, times_end, reached_end, first_end, last_loom}
-use Rattle.recording.specs.Recording.{operation_at, side_at, one, times, FirstIs, reached}
+use Rattle.recording.specs.Recording.{operation_at, side_at, one, times, reached}
 use Rattle.recording.specs.Words.{with_if, advanced, first_by, last_by, word_from, filled, SequenceOf, ReachedBy}
 
 -- ---- a set moved by an operation

@@ -6,7 +6,6 @@ use Rattle.std.proofs.Common.{not-suc-le-zero, subst, ◌∙◌}
 use Rattle.std.specs.Prelude.{◌≡◌, refl, Bool, true, false, cond, List, [], ◌∷◌, eqb, ltb, length, get_or, take}
 use Rattle.std.proofs.Math.Path.{sym, ap}
 use borrow.Author.Tests.{lt-ltb, le-ltb, ltb-true, ltb-false, eqb-true}
-use Rattle.cell.specs.declared.Moved.{Moved}
 use Rattle.cell.specs.declared.Moved.TheVariants.{To, Refused}
 use Rattle.cell.specs.Table.{entry_of}
 use Rattle.cell.specs.TableLaws.{good_moves}

@@ -1,6 +1,6 @@
 -- A run's acts as the code takes them: what is counted, apart from the group; the looms and the memory, apart from the rest of it.
 -- Assumes nothing.
-use Rattle.std.specs.Prelude.{ℕ, ◌+◌, max, Bool, false, cond, List, eqb}
+use Rattle.std.specs.Prelude.{ℕ, ◌+◌, max, false, cond, List, eqb}
 use Rattle.cell.specs.declared.Moved.{Moved}
 use Rattle.cell.specs.declared.Moved.TheVariants.{Refused}
 use Rattle.cell.specs.Table.{next_of}

@@ -1,6 +1,6 @@
 -- Laws of sets of states, over a number of any width.
 -- Assumes nothing.
-use Rattle.std.specs.Prelude.{ℕ, zero, suc, ◌+◌, ◌-◌, ◌*◌, ◌/◌, ◌%◌, ◌^◌, ◌≤◌, ◌<◌, min, max, ◌≡◌, refl, Bool, true, false, cond, ◌&&◌, eqb, ltb}
+use Rattle.std.specs.Prelude.{ℕ, zero, suc, ◌+◌, ◌*◌, ◌/◌, ◌%◌, ◌^◌, ◌≤◌, ◌<◌, min, max, ◌≡◌, refl, Bool, true, false, cond, ◌&&◌, eqb, ltb}
 use Rattle.std.proofs.Common.{zero-le, suc-le-suc, sym, ap, ap₂, subst, ◌∙◌, mod-lt, div-one, zero-lt-suc, lt_of_lt_of_le, div-add-mod', mul-div_cancel, pow-suc, mod-eq_of_lt, arith, pow_pos, pow_mono, eqb-true, lt-ltb, le-ltb}
 use Rattle.std.proofs.Math.Nat.{zero-div, div-eq_of_lt, mul-mod_left, div_self, mul-add-mod_self_right, pow-succ', div-div-eq-div-mul}
 use Rattle.std.proofs.Math.Arith.{bin_ind}

@@ -1,5 +1,4 @@
 -- `cell::first_outside` meets its contract. The invariant: what is left to find from i on is what there is to find from the start.
-use Prim.Native.Nat.{◌-◌}
 use mathlib.Core.Path.{sym, ◌∙◌}
 use native.Mathlib.Nat.{zero-add}
 use native.Mathlib.Omega.{arith}

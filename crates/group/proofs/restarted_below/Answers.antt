@@ -1,5 +1,4 @@
 -- `group::restarted_below` meets its contract. The invariant: the looms below `i` are restarted, and nothing else has changed.
-use Prim.Native.Nat.{◌-◌}
 use native.Mathlib.Omega.{arith}
 use mathlib.Core.Path.{◌≡◌, refl, ap, ◌∙◌}
 use lib.ListN.{set}

@@ -1,5 +1,5 @@
 -- `group::side_count` meets its contract. The invariant: what is found and what is left to count make the whole.
-use Prim.Native.Nat.{◌<◌, ◌-◌}
+use Prim.Native.Nat.{◌<◌}
 use native.Mathlib.Omega.{arith}
 use lib.ListN.{get_or}
 use Rattle.recording.specs.OrdersLaws.{one_at_most}

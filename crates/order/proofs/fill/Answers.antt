@@ -1,5 +1,5 @@
 -- `order::fill` meets its contract: the words in, and those to come, are all; what lies beyond stays.
-use Prim.Native.Nat.{ℕ, ◌-◌, ◌%◌}
+use Prim.Native.Nat.{ℕ, ◌%◌}
 use native.Mathlib.Nat.{sub-zero}
 use native.Mathlib.Omega.{arith}
 use mathlib.Core.Path.{◌≡◌, ap, ◌∙◌}

@@ -1,5 +1,5 @@
 -- `order::seats` meets its contract: the seats in, and those to come, are all; the others are empty.
-use Prim.Native.Nat.{ℕ, ◌-◌}
+use Prim.Native.Nat.{ℕ}
 use native.Mathlib.Nat.{sub-zero}
 use native.Mathlib.Omega.{arith}
 use mathlib.Core.Path.{◌≡◌, ap}

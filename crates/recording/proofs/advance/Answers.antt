@@ -1,7 +1,6 @@
 -- `recording::advance` meets its contract. The invariant: the states below q have moved.
-use Prim.Native.Nat.{ℕ, ◌-◌, ◌^◌}
+use Prim.Native.Nat.{ℕ, ◌^◌}
 use mathlib.Core.Path.{refl, sym, ap, ◌∙◌}
-use mathlib.Core.Logic.{⊎_elim}
 use native.Mathlib.Omega.{arith}
 use borrow.Author.Rules.{rules}
 use lib.Bits.{bit_or}
@@ -28,11 +27,11 @@ loop-q-preserved c =
     let move = entry_of args.table.now args.states args.operation in (
       omega arith,
       elim c.if-has.branch [
-        then-has w ↦
-          w.out-is
-          ∙ w.moved-out.ensures
-          ∙ ap (λ (x : ℕ). bit_or x (2 ^ move loop.q)) loop.invariant.1
-          ∙ sym (advanced_with move args.set loop.q (sym c.has.ensures ∙ w.if-has.true))
+        | then-has w ↦
+            w.out-is
+            ∙ w.moved-out.ensures
+            ∙ ap (λ (x : ℕ). bit_or x (2 ^ move loop.q)) loop.invariant.1
+            ∙ sym (advanced_with move args.set loop.q (sym c.has.ensures ∙ w.if-has.true))
         | else-has w ↦ w.out-is ∙ loop.invariant.1 ∙ sym (advanced_past move args.set loop.q (sym c.has.ensures ∙ w.if-has.false))
       ],
     )

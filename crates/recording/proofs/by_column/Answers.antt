@@ -1,5 +1,5 @@
 -- `recording::by_column` meets its contract. The invariant: the entries below k are written, in both columns.
-use Prim.Native.Nat.{ℕ, ◌-◌, ◌≤◌, ◌<◌}
+use Prim.Native.Nat.{ℕ, ◌≤◌, ◌<◌}
 use mathlib.Core.Path.{◌≡◌, ap₂}
 use mathlib.Core.List.{List}
 use native.Mathlib.Omega.{arith}

@@ -1,5 +1,5 @@
 -- `recording::first_misfit` meets its contract. The invariant: what is left to find from loom k on is what there is to find from the first.
-use Prim.Native.Nat.{◌-◌, ◌≤◌}
+use Prim.Native.Nat.{◌≤◌}
 use mathlib.Core.Path.{◌≡◌, sym, ◌∙◌}
 use native.Mathlib.Nat.{zero-add}
 use native.Mathlib.Omega.{arith}
@@ -33,8 +33,7 @@ loop-k-smaller c = omega arith
 pub loop-k-preserved : goal.loop-k-preserved
 loop-k-preserved c =
     let enough : c.args.count ≤ length c.args.seats = let whole : length c.args.seats ≡ 8 = search rules in omega arith in
-    let loop = c.loop-k in
-    (
+    let loop = c.loop-k in (
       omega arith,
       misfit_further c.args.seats c.args.count (enough) c.args.operations loop.k (omega arith)
           (sym c.misfit.ensures ∙ c.if-misfit.false) ∙ loop.invariant.1,

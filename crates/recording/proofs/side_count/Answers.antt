@@ -1,5 +1,5 @@
 -- `recording::side_count` meets its contract. The invariant: what is found, and what is left from loom k on, make the whole.
-use Prim.Native.Nat.{◌-◌, ◌≤◌}
+use Prim.Native.Nat.{◌≤◌}
 use mathlib.Core.Path.{◌≡◌}
 use native.Mathlib.Nat.{zero-add}
 use native.Mathlib.Omega.{arith}
@@ -29,8 +29,7 @@ loop-k-smaller c = omega arith
 pub loop-k-preserved : goal.loop-k-preserved
 loop-k-preserved c =
     let enough : c.args.count ≤ length c.args.seats = let whole : length c.args.seats ≡ 8 = search rules in omega arith in
-    let loop = c.loop-k in
-    (
+    let loop = c.loop-k in (
       omega arith,
       omega (arith, c.same-found.ensures.1),
       omega (arith, c.same-found.ensures.0, side_count_further c.args.seats c.args.count (enough) c.args.side loop.k (omega arith), loop.invariant.2),

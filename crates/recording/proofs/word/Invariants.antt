@@ -1,5 +1,5 @@
 -- `recording::word` meets its contract. The invariant: for some k the looms of m below k have added what they add, and those from k on are left.
-use Prim.Native.Nat.{ℕ, ◌-◌, ◌≤◌}
+use Prim.Native.Nat.{ℕ, ◌≤◌}
 use mathlib.Core.Path.{◌≡◌}
 use lib.ListN.{length}
 use Rattle.recording.specs.Fitting.{seats_of, word_by}

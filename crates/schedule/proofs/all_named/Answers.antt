@@ -1,5 +1,4 @@
 -- `schedule::all_named` meets its contract. The invariant: whether all are named from entry i on is whether all are.
-use Prim.Native.Nat.{◌-◌}
 use mathlib.Core.Path.{◌≡◌, refl, sym, ap, ◌∙◌}
 use native.Mathlib.Omega.{arith}
 use lib.ListN.{get_or}

@@ -4,7 +4,6 @@
 use Prim.Native.Nat.{◌-◌, ◌<◌, ◌≤◌}
 use mathlib.Core.Path.{◌≡◌, refl, sym, ap, subst, ◌∙◌}
 use mathlib.Core.Bool.{true}
-use mathlib.Core.Logic.{⊎_elim}
 use native.Mathlib.Omega.{arith}
 use lib.ListN.{set, get_or, length-set}
 use Rattle.cell.specs.Limits.{edition, first_restart, entry_of_all}
@@ -144,25 +143,25 @@ loop-taken-preserved c =
     let g = come_to a.opening l.looms l.memory in
     let fitting = l.invariant.7 in
     elim c.if-at-count.branch [
-      then-at-count+in-Refused w ↦
-        acted_alike a.opening _ _ _ _ _ _ (w.acted-is ∙ w.unmoved-acted-in-Refused.ensures) w.looms-is w.memory-is
-        ∙ answered_in_place a.table.now a.states a.operations g fitting at.result w.if-at-count.true (sym w.in-Refused.is ∙ w.leads_to.ensures)
+      | then-at-count+in-Refused w ↦
+          acted_alike a.opening _ _ _ _ _ _ (w.acted-is ∙ w.unmoved-acted-in-Refused.ensures) w.looms-is w.memory-is
+          ∙ answered_in_place a.table.now a.states a.operations g fitting at.result w.if-at-count.true (sym w.in-Refused.is ∙ w.leads_to.ensures)
       | then-at-count+in-To w ↦
-        acted_alike a.opening _ _ _ _ _ _ (w.acted-is ∙ w.moved-acted.ensures) w.looms-is w.memory-is
-        ∙ taken_in_place a.table.now a.states a.operations g fitting at.result _ _ _ _ w.if-at-count.true (sym w.in-To.is ∙ w.leads_to.ensures) l.invariant.2 w.of-number.ensures w.turn-turned.ensures
+          acted_alike a.opening _ _ _ _ _ _ (w.acted-is ∙ w.moved-acted.ensures) w.looms-is w.memory-is
+          ∙ taken_in_place a.table.now a.states a.operations g fitting at.result _ _ _ _ w.if-at-count.true (sym w.in-To.is ∙ w.leads_to.ensures) l.invariant.2 w.of-number.ensures w.turn-turned.ensures
       | else-at-count+then-entry-eq-ALL w ↦
-        acted_alike a.opening _ _ _ _ _ _ (w.acted-is ∙ still) (w.looms-is ∙ w.restarted_below-new.ensures) w.memory-is
-        ∙ (all_in_place a.table.now a.states a.operations g few
-        ∙ ap (λ n. acted_of a.table.now a.states a.operations g (act_of n)) (sym (at.ensures ∙ w.if-entry-eq-ALL.true)))
+          acted_alike a.opening _ _ _ _ _ _ (w.acted-is ∙ still) (w.looms-is ∙ w.restarted_below-new.ensures) w.memory-is
+          ∙ (all_in_place a.table.now a.states a.operations g few
+          ∙ ap (λ n. acted_of a.table.now a.states a.operations g (act_of n)) (sym (at.ensures ∙ w.if-entry-eq-ALL.true)))
       | else-at-count+else-entry-eq-ALL w ↦
-        let named : is_named a.opening.count (act_of at.result) ≡ true =
-        ap (λ n. is_named a.opening.count (act_of n)) entry_here
-        ∙ each_named a.opening.count a.schedule.now l.taken c.requires.0.named (omega arith) in
-        let h = named_restart a.opening.count at.result named w.if-at-count.false (λ is. w.if-entry-eq-ALL.false (sym at.ensures ∙ is)) in
-        let back : w.wide-back.result ≡ at.result - first_restart = w.wide-back.ensures ∙ ap (λ n. n - first_restart) (sym at.ensures) in
-        acted_alike a.opening _ _ _ _ _ _ (w.acted-is ∙ still) (w.looms-is ∙ ap (set l.looms w.wide-back.result) w.restarted.ensures) w.memory-is
-        ∙ restart_in_place a.table.now a.states a.operations g at.result w.wide-back.result h.0 h.1 back
-        (fitting_loom a.table.now a.states a.operations g fitting w.wide-back.result (omega (arith, back, h.2)))
+          let named : is_named a.opening.count (act_of at.result) ≡ true =
+          ap (λ n. is_named a.opening.count (act_of n)) entry_here
+          ∙ each_named a.opening.count a.schedule.now l.taken c.requires.0.named (omega arith) in
+          let h = named_restart a.opening.count at.result named w.if-at-count.false (λ is. w.if-entry-eq-ALL.false (sym at.ensures ∙ is)) in
+          let back : w.wide-back.result ≡ at.result - first_restart = w.wide-back.ensures ∙ ap (λ n. n - first_restart) (sym at.ensures) in
+          acted_alike a.opening _ _ _ _ _ _ (w.acted-is ∙ still) (w.looms-is ∙ ap (set l.looms w.wide-back.result) w.restarted.ensures) w.memory-is
+          ∙ restart_in_place a.table.now a.states a.operations g at.result w.wide-back.result h.0 h.1 back
+          (fitting_loom a.table.now a.states a.operations g fitting w.wide-back.result (omega (arith, back, h.2)))
     ]
     ∙ ap (λ n. acted_of a.table.now a.states a.operations g (act_of n)) (entry_here) in
     let l = c.loop-taken in

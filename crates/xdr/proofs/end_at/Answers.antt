@@ -1,7 +1,5 @@
 use borrow.Author.Tests.{le-leb, lt-leb}
 use Rattle.xdr.specs.Field.{end_at}
-use Rattle.xdr.proofs.end_at.Reads as reads
-use Rattle.xdr.proofs.end_at.Lts as lts
 use Rattle.xdr.proofs.end_at.Goals as goal
 
 pub returns-then-file-at : goal.returns-then-file-at

@@ -1,9 +1,5 @@
 use mathlib.Core.Path.{sym, ◌∙◌}
 use Rattle.xdr.specs.FieldLaws.{within_low, within_high, field_ends, limits_take, limits_refuse}
-use Rattle.xdr.proofs.field_at.Reads as reads
-use Rattle.xdr.proofs.field_at.Lts as lts
-use Rattle.xdr.proofs.reaches.Reads as reaches-reads
-use Rattle.xdr.proofs.word_at.Reads as word-at-reads
 use Rattle.xdr.proofs.field_at.Goals as goal
 
 pub returns-then-value-end : goal.returns-then-value-end

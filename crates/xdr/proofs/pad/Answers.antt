@@ -1,8 +1,6 @@
 use native.Mathlib.Omega.{arith}
 use mathlib.Core.Path.{refl}
 use Rattle.xdr.specs.Opaque.{pad_of}
-use Rattle.xdr.proofs.pad.Reads as reads
-use Rattle.xdr.proofs.pad.Lts as lts
 use Rattle.xdr.proofs.pad.Goals as goal
 
 pub returns : goal.returns

@@ -1,5 +1,5 @@
 -- `xdr::part_at` meets its contract: at each `return` the tests that led there say whether the part lies in the file.
-use Prim.Native.Nat.{ℕ, ◌-◌}
+use Prim.Native.Nat.{ℕ}
 use native.Mathlib.Nat.{add-sub_cancel_left}
 use native.Mathlib.Omega.{arith}
 use mathlib.Core.Path.{sym, ap, ◌∙◌}

@@ -2,8 +2,6 @@ use Prim.Native.Nat.{◌+◌}
 use native.Mathlib.Omega.{arith}
 use mathlib.Core.Path.{sym}
 use borrow.Author.Tests.{le-leb, lt-leb}
-use Rattle.xdr.proofs.reaches.Reads as reads
-use Rattle.xdr.proofs.reaches.Lts as lts
 use Rattle.xdr.proofs.reaches.Goals as goal
 
 pub returns-then-count-length : goal.returns-then-count-length

@@ -1,9 +1,6 @@
 use native.Mathlib.Omega.{arith}
 use mathlib.Core.Path.{sym, ◌∙◌}
 use Rattle.xdr.specs.FieldLaws.{word_inside, word_past}
-use Rattle.xdr.proofs.word_at.Reads as reads
-use Rattle.xdr.proofs.word_at.Lts as lts
-use Rattle.xdr.proofs.join.Reads as join-reads
 use Rattle.xdr.proofs.word_at.Goals as goal
 
 pub returns-then-file-lt4 : goal.returns-then-file-lt4

@@ -1,5 +1,5 @@
 -- `cell::catalogue_cell::fill` meets its contract. The invariant: the first i entries are written, and the rest of the room is as it was.
-use Prim.Native.Nat.{ℕ, ◌-◌, ◌*◌, ◌<◌}
+use Prim.Native.Nat.{ℕ, ◌*◌, ◌<◌}
 use mathlib.Core.Path.{◌≡◌, refl, sym, ap, ◌∙◌}
 use mathlib.Core.List.{List, ◌++◌}
 use native.Mathlib.Numerals.{add-one}
