@@ -16,7 +16,7 @@ import sys
 WORD = re.compile(r"[\w'\u2080-\u2089\u25cc-]+")
 MADE = re.compile(r"^\s*\S+ : (?:\([^)]*\) → )?tie\.|^\s*(?:pub )?\S+ : \{M : Type 1\} → statement M")
 # Names with a word of the older library in them, and two lemmas on the digits of `bit_or` and `bit_and`.
-ODD = {"getD-each": "get_or_each", "bit-or": "bit-bit_or", "bit-and": "bit-bit_and", "machineSteps": "machine_steps"}
+ODD = {"getD-each": "get_or_each", "bit-or": "bit-bit_or", "bit-and": "bit-bit_and", "machineSteps": "machine_steps", "some-a": "some_a", "some-b": "some_b"}
 # A register of Figure 2 that port.py took for a word of a library's.
 BACK = {"Ra": "RA"}
 # Lemmas that have the name of their function already.
@@ -85,7 +85,7 @@ def main():
                 texts[path] = f.read()
     # A lemma that would have its function's name gets `_lem`.
     for new, olds in list(back.items()):
-        lemmas = [o for o in olds if "-" in o]
+        lemmas = [o for o in olds if "-" in o and o not in ODD]
         if len(olds) == 2 and len(lemmas) == 1:
             turned[lemmas[0]] = new + "_lem"
             back[new].remove(lemmas[0])

@@ -1,4 +1,3 @@
-pub mod OrdersLaws
 pub mod TeamsLaws
 pub mod LogLaws
 pub mod PhasesLaws

@@ -21,7 +21,7 @@ use Rattle.loom.specs.SidesLaws.{same_or_other, other_other, same_side_lem, same
 use Rattle.agreement.specs.Machine.{NotZero, Event, posted, applied, answered, Act, step, restart, restart_all, EachStep, State, side_of, changed_at, with_post, with_said, turned, replaced, stepped_from, stepped, acted, after, opening}
 use Rattle.agreement.specs.Agreed.{NoneApplied}
 use Rattle.agreement.specs.Fitted.{Fitted}
-use Rattle.agreement.proofs.OrdersLaws.{order_of_one, order_of_one_more, reached_by_one_more, not_in_one_more}
+use Rattle.agreement.specs.OrdersLaws.{order_of_one, order_of_one_more, reached_by_one_more, not_in_one_more}
 use Rattle.agreement.proofs.TeamsLaws.{side_number_lem, start_or_alone, every_loom_appears, decides, one_yields, leads_without}
 use Rattle.agreement.specs.Phases.{Phase, fresh, even, first, AllFit, Honest, Wins, MayApply, MayLook, MayRead, Stands, Begun, First, Phased, Holds}
 use Rattle.agreement.proofs.LogLaws.{had_nothing, had_latest, had_still, none_applied_by_post, still_applied, not_zero_still, honest_post, honest_application, changed_all}

@@ -11,7 +11,7 @@ use Rattle.loom.specs.SidesLaws.{side_of_number, same_or_other, number_of_side}
 use Rattle.loom.specs.Turn.{Rules, decided}
 use Rattle.agreement.specs.Machine.{side_of}
 use Rattle.agreement.specs.Fitted.{Fitted}
-use Rattle.agreement.proofs.OrdersLaws.{order_of_one, order_of_one_more, reached_by_one_more, loom_of_order, lone}
+use Rattle.agreement.specs.OrdersLaws.{order_of_one, order_of_one_more, reached_by_one_more, loom_of_order, lone}
 
 module _ {next : ℕ → ℕ → ℕ} {looms : List Seat} {start : ℕ} {R : Rules} (given : Fitted next looms start R) where
   -- Loom k's number for its side.

@@ -1,6 +1,7 @@
 pub mod Machine
 pub mod Agreed
 pub mod Fitted
+pub mod OrdersLaws
 pub mod Phases
 pub mod Steps
 pub mod Figure

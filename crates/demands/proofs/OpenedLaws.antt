@@ -28,8 +28,8 @@ use Rattle.demands.specs.NewlyOpened.{AreSets, NewlyOpened}
 -- What code 0 says of an opening: the check accepted, neither number is 0, and the group is as it opens.
 record Opens (j : Judged) (c : Certificate) (numbers : Numbers) : Type 0 where
   accepting : j.code ≡ 0
-  some_a_lem : NotZero numbers.a
-  some_b_lem : NotZero numbers.b
+  some_a : NotZero numbers.a
+  some_b : NotZero numbers.b
   fresh : (opened_by j c numbers).group ≡ fresh_group c (sets_from j) numbers
 
 opens : (j : Judged) (c : Certificate) (numbers : Numbers) → (opened_by j c numbers).code ≡ 0 → Opens j c numbers
@@ -45,8 +45,8 @@ opens j c numbers = by_tests (eqb j.code 0) (eqb numbers.a 0) (eqb numbers.b 0) 
     by_tests true false false es et eu code =
         record {
           accepting = eqb-true j.code 0 es;
-          some_a_lem = eqb-false numbers.a 0 et;
-          some_b_lem = eqb-false numbers.b 0 eu;
+          some_a = eqb-false numbers.a 0 et;
+          some_b = eqb-false numbers.b 0 eu;
           fresh = rw (es, et, eu) refl;
         }
 
@@ -125,5 +125,5 @@ newly_opened table states operations c numbers room code =
     made = opens (judged_of table states operations c room) c numbers code
 
     both : (s : Side) → NotZero (number_of numbers s)
-    both A = made.some_a_lem
-    both B = made.some_b_lem
+    both A = made.some_a
+    both B = made.some_b

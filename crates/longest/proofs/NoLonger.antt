@@ -1,18 +1,14 @@
--- The longest file: document 01, "The order file".
+-- No file is longer: document 01, "The order file".
 -- Assumes nothing.
-use Rattle.std.specs.Prelude.{ℕ, ◌+◌, ◌*◌, ◌≤◌, ◌≡◌, refl, List, length}
+use Rattle.std.specs.Prelude.{ℕ, ◌≤◌, List, length}
 use Rattle.std.proofs.Common.{arith}
-use Rattle.cell.specs.Limits.{Limits, edition}
+use Rattle.cell.specs.Limits.{Limits}
 use Rattle.xdr.specs.Field.{Passed}
-use Rattle.xdr.specs.Opaque.{pad_of, padded}
 use Rattle.xdr.proofs.OpaqueLaws.{padded_grows}
 use Rattle.format.specs.Layout.{plan_of}
 use Rattle.format.specs.Format.{verdict_of}
 use Rattle.format.proofs.AcceptedLaws.{verdict_bounds}
-
--- The most bytes that the parts of a file can have.
-abbrev pub longest_of : Limits → ℕ
-longest_of L = 12 + 4 * (L.states * L.operations) + 8 + 8 * L.looms + 8 + 4 + padded L.label + 4 + padded L.label + 4 + 4 * L.entries
+use Rattle.longest.specs.Longest.{longest_of}
 
 -- "The longest file has 20,648 bytes": no file that is taken has more, by any limits.
 pub no_longer : (L : Limits) (s : List ℕ) → Passed (verdict_of L s) → length s ≤ longest_of L
@@ -22,8 +18,3 @@ no_longer L s h =
     let first = padded_grows _ _ B.first in
     let second = padded_grows _ _ B.second in
     omega (arith, B.size, B.looms, B.count, B.end)
-
--- And by today's limits it is that number.
-pub longest_is : longest_of edition ≡ 20648
-unfolding pad_of
-longest_is = refl
