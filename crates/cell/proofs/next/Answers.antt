@@ -1,9 +1,6 @@
 -- `cell::next` meets its contract: each way out is one of the lookup's laws.
 use mathlib.Core.Path.{sym}
-use Prim.Native.Nat.{◌*◌, ◌<◌}
 use native.Mathlib.Omega.{arith}
-use Rattle.cell.specs.Limits.{edition}
-use Rattle.cell.specs.Table.{position}
 use Rattle.cell.specs.TableLaws.{refused_states, refused_operation, refused_state, refused_position, refused_entry, moved_to, position_bound}
 use Rattle.cell.proofs.next.Goals as goal
 
@@ -18,15 +15,11 @@ returns-then-states-state c = sym (refused_state _ _ _ _ c.if-states-gt-STATES.f
 
 pub overflow_mul-at : goal.overflow_mul-at
 overflow_mul-at c =
-    let small : position c.args.states c.args.operation c.args.state < edition.operations * edition.states =
-    position_bound c.args.table.now c.args.states c.args.operation c.args.state c.if-states-gt-STATES.false c.if-operation-ge-OPERATIONS.false c.if-states-state.false in
-    omega (arith, small)
+    omega (arith, position_bound c.args.table.now c.args.states c.args.operation c.args.state c.if-states-gt-STATES.false c.if-operation-ge-OPERATIONS.false c.if-states-state.false)
 
 pub overflow_add-at : goal.overflow_add-at
 overflow_add-at c =
-    let small : position c.args.states c.args.operation c.args.state < edition.operations * edition.states =
-    position_bound c.args.table.now c.args.states c.args.operation c.args.state c.if-states-gt-STATES.false c.if-operation-ge-OPERATIONS.false c.if-states-state.false in
-    omega (arith, small)
+    omega (arith, position_bound c.args.table.now c.args.states c.args.operation c.args.state c.if-states-gt-STATES.false c.if-operation-ge-OPERATIONS.false c.if-states-state.false)
 
 pub returns-then-table-at : goal.returns-then-table-at
 returns-then-table-at c =

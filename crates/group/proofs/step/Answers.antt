@@ -1,8 +1,6 @@
 -- `group::step` meets its contract: no such loom, or the step of that loom by the group's rules, put in its place in the group.
 use native.Mathlib.Omega.{arith}
 use mathlib.Core.Path.{sym, ap, ◌∙◌}
-use Prim.Native.Nat.{◌<◌, ◌≤◌}
-use Rattle.cell.specs.Limits.{edition}
 use Rattle.loom.specs.Looms.{rules_of}
 use Rattle.group.specs.declared.Stepped.{Stepped}
 use Rattle.group.specs.Group.{with_loom, with_shared}
@@ -18,36 +16,16 @@ returns-then-no_loom c =
     ∙ step_no_loom a.group a.loom a.table.now a.states a.operations (sym c.no_loom.ensures ∙ c.if-no_loom.true)
 
 pub offset_bounds-after-loom : goal.offset_bounds-after-loom
-offset_bounds-after-loom c =
-    let below : let a = c.args in
-    (a.loom < a.group.count) × (a.group.count ≤ edition.looms) =
-    let a = c.args in
-    has_loom a.group a.loom (sym c.no_loom.ensures ∙ c.if-no_loom.false) in
-    let h = below in omega arith
+offset_bounds-after-loom c = omega (arith, has_loom c.args.group c.args.loom (sym c.no_loom.ensures ∙ c.if-no_loom.false))
 
 pub bounds-after-loom : goal.bounds-after-loom
-bounds-after-loom c =
-    let below : let a = c.args in
-    (a.loom < a.group.count) × (a.group.count ≤ edition.looms) =
-    let a = c.args in
-    has_loom a.group a.loom (sym c.no_loom.ensures ∙ c.if-no_loom.false) in
-    let h = below in omega arith
+bounds-after-loom c = omega (arith, has_loom c.args.group c.args.loom (sym c.no_loom.ensures ∙ c.if-no_loom.false))
 
 pub offset_bounds-after-loom-2 : goal.offset_bounds-after-loom-2
-offset_bounds-after-loom-2 c =
-    let below : let a = c.args in
-    (a.loom < a.group.count) × (a.group.count ≤ edition.looms) =
-    let a = c.args in
-    has_loom a.group a.loom (sym c.no_loom.ensures ∙ c.if-no_loom.false) in
-    let h = below in omega arith
+offset_bounds-after-loom-2 c = omega (arith, has_loom c.args.group c.args.loom (sym c.no_loom.ensures ∙ c.if-no_loom.false))
 
 pub bounds-after-loom-2 : goal.bounds-after-loom-2
-bounds-after-loom-2 c =
-    let below : let a = c.args in
-    (a.loom < a.group.count) × (a.group.count ≤ edition.looms) =
-    let a = c.args in
-    has_loom a.group a.loom (sym c.no_loom.ensures ∙ c.if-no_loom.false) in
-    let h = below in omega arith
+bounds-after-loom-2 c = omega (arith, has_loom c.args.group c.args.loom (sym c.no_loom.ensures ∙ c.if-no_loom.false))
 
 pub returns : goal.returns
 returns c =

@@ -8,6 +8,10 @@ use Rattle.recording.specs.Check.{fault_of, judgement, verdict_on}
 use Rattle.recording.specs.CheckLaws.{judged_refused, judged_past, area_refused, area_past}
 use Rattle.recording.proofs.judge.Goals as goal
 
+-- What the code finds has no fault, and so what is there has none.
+no_fault : {f g : Formed} → f ≡ g → f.code ≡ 0 → g.code ≡ 0
+no_fault is none = ap (λ (h : Formed). h.code) (sym is) ∙ none
+
 pub returns-then-f-ne0 : goal.returns-then-f-ne0
 returns-then-f-ne0 c =
     let refused : (fault_of c.args.table.now c.args.states
@@ -18,17 +22,15 @@ returns-then-f-ne0 c =
     record {
       answer_is =
           ap (λ (f : Formed). judgement f.code f.place 0 0) fault
-          ∙ sym (judged_refused args.table.now args.states args.operations args.certificate (length args.area.now) (refused));
-      area_is = sym (area_refused args.table.now args.states args.operations args.certificate args.area.now (refused));
+          ∙ sym (judged_refused args.table.now args.states args.operations args.certificate (length args.area.now) refused);
+      area_is = sym (area_refused args.table.now args.states args.operations args.certificate args.area.now refused);
     }
 
 pub fill_both-filled-requires : goal.fill_both-filled-requires
 fill_both-filled-requires c =
-    let past : (fault_of c.args.table.now c.args.states
-    c.args.operations c.args.certificate
-    (length c.args.area.now)).code ≡ 0 = ap (λ (f : Formed). f.code) (sym c.fault-f.ensures) ∙ c.if-f-ne0.false in
+    let past = no_fault c.fault-f.ensures c.if-f-ne0.false in
     let args = c.args in
-    let ok = admitted args.table.now args.states args.operations args.certificate (length args.area.now) (past) in record {
+    let ok = admitted args.table.now args.states args.operations args.certificate (length args.area.now) past in record {
       fitting = fitting args.table.now args.states args.operations args.certificate (length args.area.now) ok;
       counted = counted args.table.now args.states args.operations args.certificate (length args.area.now) ok;
       room_enough = ok.enough;
@@ -36,24 +38,19 @@ fill_both-filled-requires c =
 
 pub verdict_on-requires : goal.verdict_on-requires
 verdict_on-requires c =
-    let past : (fault_of c.args.table.now c.args.states
-    c.args.operations c.args.certificate
-    (length c.args.area.now)).code ≡ 0 = ap (λ (f : Formed). f.code) (sym c.fault-f.ensures) ∙ c.if-f-ne0.false in
+    let past = no_fault c.fault-f.ensures c.if-f-ne0.false in
     let args = c.args in
-    (admitted args.table.now args.states args.operations args.certificate (length args.area.now) (past)).few
+    (admitted args.table.now args.states args.operations args.certificate (length args.area.now) past).few
 
 pub returns : goal.returns
 returns c =
-    let past : (fault_of c.args.table.now c.args.states
-    c.args.operations c.args.certificate
-    (length c.args.area.now)).code ≡ 0 = ap (λ (f : Formed). f.code) (sym c.fault-f.ensures) ∙ c.if-f-ne0.false in
+    let past = no_fault c.fault-f.ensures c.if-f-ne0.false in
     let args = c.args in
-    let ok = past in
     let filled = c.fill_both-filled.ensures in
     record {
       answer_is =
           c.verdict_on.ensures
           ∙ ap (λ (f : Filled). verdict_on args.certificate f.a f.b) filled.0
-          ∙ sym (judged_past args.table.now args.states args.operations args.certificate (length args.area.now) ok);
-      area_is = filled.1 ∙ sym (area_past args.table.now args.states args.operations args.certificate args.area.now ok);
+          ∙ sym (judged_past args.table.now args.states args.operations args.certificate (length args.area.now) past);
+      area_is = filled.1 ∙ sym (area_past args.table.now args.states args.operations args.certificate args.area.now past);
     }

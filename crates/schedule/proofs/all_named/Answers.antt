@@ -1,9 +1,8 @@
 -- `schedule::all_named` meets its contract. The invariant: whether all are named from entry i on is whether all are.
-use mathlib.Core.Path.{◌≡◌, refl, sym, ap, ◌∙◌}
+use mathlib.Core.Path.{refl, sym, ap, ◌∙◌}
 use native.Mathlib.Omega.{arith}
-use lib.ListN.{get_or}
 use borrow.Author.Rules.{rules}
-use Rattle.schedule.specs.Acts.{act_of, is_named}
+use Rattle.schedule.specs.Acts.{is_named}
 use Rattle.schedule.specs.ActsLaws.{unnamed_here, named_further, named_past}
 use Rattle.schedule.proofs.all_named.Goals as goal
 
@@ -15,13 +14,9 @@ bounds-schedule-i c = omega arith
 
 pub returns-then-not-is_named : goal.returns-then-not-is_named
 returns-then-not-is_named c =
-    let named : c.is_named.result
-    ≡ is_named c.args.count
-    (act_of (get_or c.args.schedule.now c.loop-i.i 0)) =
-    c.is_named.ensures ∙ ap (is_named c.args.count) c.act_of.ensures in
     let loop = c.loop-i in
     let args = c.args in
-    unnamed_here args.count args.schedule.now loop.i (omega arith) _ (named) (c.if-not-is_named.true) ∙ loop.invariant.1
+    unnamed_here args.count args.schedule.now loop.i (omega arith) _ (c.is_named.ensures ∙ ap (is_named c.args.count) c.act_of.ensures) c.if-not-is_named.true ∙ loop.invariant.1
 
 pub overflow_add-i : goal.overflow_add-i
 overflow_add-i c = omega arith
@@ -31,13 +26,9 @@ loop-i-smaller c = omega arith
 
 pub loop-i-preserved : goal.loop-i-preserved
 loop-i-preserved c =
-    let named : c.is_named.result
-    ≡ is_named c.args.count
-    (act_of (get_or c.args.schedule.now c.loop-i.i 0)) =
-    c.is_named.ensures ∙ ap (is_named c.args.count) c.act_of.ensures in
     let loop = c.loop-i in
     let args = c.args in
-    (omega arith, named_further args.count args.schedule.now loop.i (omega arith) _ (named) (c.if-not-is_named.false) ∙ loop.invariant.1)
+    (omega arith, named_further args.count args.schedule.now loop.i (omega arith) _ (c.is_named.ensures ∙ ap (is_named c.args.count) c.act_of.ensures) c.if-not-is_named.false ∙ loop.invariant.1)
 
 pub returns : goal.returns
 returns c =

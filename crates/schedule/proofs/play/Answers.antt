@@ -1,20 +1,34 @@
 -- `schedule::play` meets its contract. The invariant speaks of the rest: what is left to do from this run on is what there was to do, the
 -- marks written and those to come are all marks, and no later byte has changed; what the looms go by is as it was at first, and the group
 -- fits its table. The group of the run is the one that opened, with the looms and the memory that the run has come to.
-use Prim.Native.Nat.{◌-◌, ◌<◌, ◌≤◌}
+use Prim.Native.Nat.{ℕ, ◌-◌, ◌<◌, ◌≤◌}
 use mathlib.Core.Path.{◌≡◌, refl, sym, ap, subst, ◌∙◌}
 use mathlib.Core.Bool.{true}
+use mathlib.Core.List.{List}
 use native.Mathlib.Omega.{arith}
-use lib.ListN.{set, get_or, length-set}
+use lib.ListN.{set, get_or, length, length-set}
 use Rattle.cell.specs.Limits.{edition, first_restart, entry_of_all}
 use Rattle.demands.specs.Kept.{Kept}
-use Rattle.schedule.specs.Acts.{act_of, is_named}
+use Rattle.group.specs.declared.Group.{Group}
+use Rattle.loom.specs.declared.Loom.{Loom}
+use Rattle.loom.specs.declared.Shared.{Shared}
+use Rattle.schedule.specs.Acts.{act_of, is_named, all_named}
 use Rattle.schedule.specs.Played.{acted_of, played_of}
 use Rattle.schedule.specs.PlayedLaws.{Turned, within_none, within_next, played_next, marks_next, bytes_after, played_past, marks_all}
 use Rattle.schedule.specs.InPlace.{acted_by, come_to, Fitting, ran_by}
 use Rattle.schedule.proofs.InPlaceLaws.{lead_kept, counted_apart, acted_alike, each_named, named_restart, kept_by_acted, restart_in_place, all_in_place, fitting_after, fitting_few, fitting_loom, answered_in_place, taken_in_place}
 use Rattle.schedule.proofs.play.Goals as goal
 use Rattle.schedule.proofs.play.Goals.{then-at-count+in-Refused, then-at-count+in-To, else-at-count+then-entry-eq-ALL, else-at-count+else-entry-eq-ALL}
+
+few_looms : {table : List ℕ} {states operations : ℕ} (opening : Group) {looms : List Loom} {memory : Shared} → Fitting table states operations (come_to opening looms memory)
+    → opening.count ≤ edition.looms
+few_looms opening fitting = fitting_few _ _ _ _ fitting
+
+-- The entry at i, where it is no step and not the restart of all: a restart of one of the looms.
+restarts_one : (count : ℕ) (schedule : List ℕ) (i : ℕ) {at : ℕ} → all_named count schedule ≡ true → i < length schedule → at ≡ get_or schedule i 0
+    → count ≤ at → (at ≡ entry_of_all → ⊥) → (first_restart ≤ at) × (at < entry_of_all) × (at - first_restart < count)
+restarts_one count schedule i {at = at} named here is =
+    named_restart count at (ap (λ (e : ℕ). is_named count (act_of e)) is ∙ each_named count schedule i named here)
 
 pub loop-taken-init : goal.loop-taken-init
 loop-taken-init c =
@@ -33,88 +47,41 @@ pub bounds-schedule-taken : goal.bounds-schedule-taken
 bounds-schedule-taken c = omega arith
 
 pub offset_bounds-looms-at : goal.offset_bounds-looms-at
-offset_bounds-looms-at c =
-    let few : c.args.opening.count ≤ edition.looms = fitting_few _ _ _ _ c.loop-taken.invariant.7 in
-    let h = few in omega arith
+offset_bounds-looms-at c = omega (arith, few_looms c.args.opening c.loop-taken.invariant.7)
 
 pub bounds-looms-at : goal.bounds-looms-at
-bounds-looms-at c =
-    let few : c.args.opening.count ≤ edition.looms = fitting_few _ _ _ _ c.loop-taken.invariant.7 in
-    let h = few in omega arith
+bounds-looms-at c = omega (arith, few_looms c.args.opening c.loop-taken.invariant.7)
 
 pub offset_bounds-looms-at-in-To : goal.offset_bounds-looms-at-in-To
-offset_bounds-looms-at-in-To c =
-    let few : c.args.opening.count ≤ edition.looms = fitting_few _ _ _ _ c.loop-taken.invariant.7 in
-    let h = few in omega (arith, c.if-at-count.true)
+offset_bounds-looms-at-in-To c = omega (arith, few_looms c.args.opening c.loop-taken.invariant.7, c.if-at-count.true)
 
 pub bounds-looms-at-in-To : goal.bounds-looms-at-in-To
-bounds-looms-at-in-To c =
-    let few : c.args.opening.count ≤ edition.looms = fitting_few _ _ _ _ c.loop-taken.invariant.7 in
-    let h = few in omega (arith, c.if-at-count.true)
+bounds-looms-at-in-To c = omega (arith, few_looms c.args.opening c.loop-taken.invariant.7, c.if-at-count.true)
 
 pub overflow_sub-entry : goal.overflow_sub-entry
 overflow_sub-entry c =
-    let entry_here : c.wide-at.result ≡ get_or c.args.schedule.now c.loop-taken.taken 0 = c.wide-at.ensures in
-    let restarts : let at = c.wide-at.result in
-    (first_restart ≤ at) × (at < entry_of_all) × (at - first_restart < c.args.opening.count) =
-    let a = c.args in
-    let named : is_named a.opening.count (act_of c.wide-at.result) ≡ true =
-    ap (λ n. is_named a.opening.count (act_of n)) (entry_here)
-    ∙ each_named a.opening.count a.schedule.now c.loop-taken.taken c.requires.0.named (omega arith) in
-    named_restart a.opening.count c.wide-at.result named c.if-at-count.false (λ is. c.if-entry-eq-ALL.false (sym c.wide-at.ensures ∙ is)) in
-    let h = restarts in omega (arith, c.wide-at.ensures)
+    let h = restarts_one c.args.opening.count c.args.schedule.now c.loop-taken.taken c.requires.0.named (omega arith) c.wide-at.ensures c.if-at-count.false (λ is. c.if-entry-eq-ALL.false (sym c.wide-at.ensures ∙ is)) in
+    omega (arith, h, c.wide-at.ensures)
 
 pub offset_bounds-looms-back : goal.offset_bounds-looms-back
 offset_bounds-looms-back c =
-    let few : c.args.opening.count ≤ edition.looms = fitting_few _ _ _ _ c.loop-taken.invariant.7 in
-    let entry_here : c.wide-at.result ≡ get_or c.args.schedule.now c.loop-taken.taken 0 = c.wide-at.ensures in
-    let restarts : let at = c.wide-at.result in
-    (first_restart ≤ at) × (at < entry_of_all) × (at - first_restart < c.args.opening.count) =
-    let a = c.args in
-    let named : is_named a.opening.count (act_of c.wide-at.result) ≡ true =
-    ap (λ n. is_named a.opening.count (act_of n)) (entry_here)
-    ∙ each_named a.opening.count a.schedule.now c.loop-taken.taken c.requires.0.named (omega arith) in
-    named_restart a.opening.count c.wide-at.result named c.if-at-count.false (λ is. c.if-entry-eq-ALL.false (sym c.wide-at.ensures ∙ is)) in
-    let h = restarts in let k = few in omega (arith, c.wide-back.ensures, c.wide-at.ensures)
+    let h = restarts_one c.args.opening.count c.args.schedule.now c.loop-taken.taken c.requires.0.named (omega arith) c.wide-at.ensures c.if-at-count.false (λ is. c.if-entry-eq-ALL.false (sym c.wide-at.ensures ∙ is)) in
+    omega (arith, h, few_looms c.args.opening c.loop-taken.invariant.7, c.wide-back.ensures, c.wide-at.ensures)
 
 pub bounds-looms-back : goal.bounds-looms-back
 bounds-looms-back c =
-    let few : c.args.opening.count ≤ edition.looms = fitting_few _ _ _ _ c.loop-taken.invariant.7 in
-    let entry_here : c.wide-at.result ≡ get_or c.args.schedule.now c.loop-taken.taken 0 = c.wide-at.ensures in
-    let restarts : let at = c.wide-at.result in
-    (first_restart ≤ at) × (at < entry_of_all) × (at - first_restart < c.args.opening.count) =
-    let a = c.args in
-    let named : is_named a.opening.count (act_of c.wide-at.result) ≡ true =
-    ap (λ n. is_named a.opening.count (act_of n)) (entry_here)
-    ∙ each_named a.opening.count a.schedule.now c.loop-taken.taken c.requires.0.named (omega arith) in
-    named_restart a.opening.count c.wide-at.result named c.if-at-count.false (λ is. c.if-entry-eq-ALL.false (sym c.wide-at.ensures ∙ is)) in
-    let h = restarts in let k = few in omega (arith, c.wide-back.ensures, c.wide-at.ensures)
+    let h = restarts_one c.args.opening.count c.args.schedule.now c.loop-taken.taken c.requires.0.named (omega arith) c.wide-at.ensures c.if-at-count.false (λ is. c.if-entry-eq-ALL.false (sym c.wide-at.ensures ∙ is)) in
+    omega (arith, h, few_looms c.args.opening c.loop-taken.invariant.7, c.wide-back.ensures, c.wide-at.ensures)
 
 pub offset_bounds-looms-back-else-entry-eq-ALL : goal.offset_bounds-looms-back-else-entry-eq-ALL
 offset_bounds-looms-back-else-entry-eq-ALL c =
-    let few : c.args.opening.count ≤ edition.looms = fitting_few _ _ _ _ c.loop-taken.invariant.7 in
-    let entry_here : c.wide-at.result ≡ get_or c.args.schedule.now c.loop-taken.taken 0 = c.wide-at.ensures in
-    let restarts : let at = c.wide-at.result in
-    (first_restart ≤ at) × (at < entry_of_all) × (at - first_restart < c.args.opening.count) =
-    let a = c.args in
-    let named : is_named a.opening.count (act_of c.wide-at.result) ≡ true =
-    ap (λ n. is_named a.opening.count (act_of n)) (entry_here)
-    ∙ each_named a.opening.count a.schedule.now c.loop-taken.taken c.requires.0.named (omega arith) in
-    named_restart a.opening.count c.wide-at.result named c.if-at-count.false (λ is. c.if-entry-eq-ALL.false (sym c.wide-at.ensures ∙ is)) in
-    let h = restarts in let k = few in omega (arith, c.wide-back.ensures, c.wide-at.ensures)
+    let h = restarts_one c.args.opening.count c.args.schedule.now c.loop-taken.taken c.requires.0.named (omega arith) c.wide-at.ensures c.if-at-count.false (λ is. c.if-entry-eq-ALL.false (sym c.wide-at.ensures ∙ is)) in
+    omega (arith, h, few_looms c.args.opening c.loop-taken.invariant.7, c.wide-back.ensures, c.wide-at.ensures)
 
 pub bounds-looms-back-else-entry-eq-ALL : goal.bounds-looms-back-else-entry-eq-ALL
 bounds-looms-back-else-entry-eq-ALL c =
-    let few : c.args.opening.count ≤ edition.looms = fitting_few _ _ _ _ c.loop-taken.invariant.7 in
-    let entry_here : c.wide-at.result ≡ get_or c.args.schedule.now c.loop-taken.taken 0 = c.wide-at.ensures in
-    let restarts : let at = c.wide-at.result in
-    (first_restart ≤ at) × (at < entry_of_all) × (at - first_restart < c.args.opening.count) =
-    let a = c.args in
-    let named : is_named a.opening.count (act_of c.wide-at.result) ≡ true =
-    ap (λ n. is_named a.opening.count (act_of n)) (entry_here)
-    ∙ each_named a.opening.count a.schedule.now c.loop-taken.taken c.requires.0.named (omega arith) in
-    named_restart a.opening.count c.wide-at.result named c.if-at-count.false (λ is. c.if-entry-eq-ALL.false (sym c.wide-at.ensures ∙ is)) in
-    let h = restarts in let k = few in omega (arith, c.wide-back.ensures, c.wide-at.ensures)
+    let h = restarts_one c.args.opening.count c.args.schedule.now c.loop-taken.taken c.requires.0.named (omega arith) c.wide-at.ensures c.if-at-count.false (λ is. c.if-entry-eq-ALL.false (sym c.wide-at.ensures ∙ is)) in
+    omega (arith, h, few_looms c.args.opening c.loop-taken.invariant.7, c.wide-back.ensures, c.wide-at.ensures)
 
 pub bounds-marks-taken : goal.bounds-marks-taken
 bounds-marks-taken c = omega (arith, c.requires.0.room_enough)
@@ -131,7 +98,7 @@ loop-taken-smaller c = omega arith
 pub loop-taken-preserved : goal.loop-taken-preserved
 loop-taken-preserved c =
     let entry_here : c.wide-at.result ≡ get_or c.args.schedule.now c.loop-taken.taken 0 = c.wide-at.ensures in
-    let few : c.args.opening.count ≤ edition.looms = fitting_few _ _ _ _ c.loop-taken.invariant.7 in
+    let few = few_looms c.args.opening c.loop-taken.invariant.7 in
     let did : let l = c.loop-taken in
     let a = c.args in
     acted_by c.if-at-count.acted (come_to a.opening c.if-at-count.looms c.if-at-count.memory)

@@ -16,19 +16,13 @@ returns-then-code-ne0 c =
 
 pub play-requires : goal.play-requires
 play-requires c =
-    let accepted : code_of c.args.opened c.args.schedule.now
-    (length c.args.marks.now)
-    ≡ 0 = sym c.code_of-code.ensures ∙ c.if-code-ne0.false in
-    let says = code_says _ _ _ (accepted) in
+    let says = code_says _ _ _ (sym c.code_of-code.ensures ∙ c.if-code-ne0.false) in
     (says.1, c.requires says.0)
 
 pub returns : goal.returns
 returns c =
-    let accepted : code_of c.args.opened c.args.schedule.now
-    (length c.args.marks.now)
-    ≡ 0 = sym c.code_of-code.ensures ∙ c.if-code-ne0.false in
     let a = c.args in
-    let none = accepted in (
+    let none = sym c.code_of-code.ensures ∙ c.if-code-ne0.false in (
       c.play.ensures.0 ∙ ran_played a.opened a.schedule.now (length a.marks.now) a.table.now a.states a.operations none,
       c.play.ensures.1 ∙ marked_played a.table.now a.states a.operations a.opened a.schedule.now a.marks.now none,
     )
