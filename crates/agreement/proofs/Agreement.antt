@@ -3,7 +3,7 @@
 use Rattle.std.specs.Prelude.{ℕ, ◌≡◌, List}
 use Rattle.std.proofs.Common.{ap, sym, ◌∙◌}
 use Rattle.recording.specs.declared.Seat.{Seat}
-use Rattle.loom.specs.declared.Side.{Side}
+use Rattle.sides.specs.declared.Side.{Side}
 use Rattle.loom.specs.Turn.{Rules}
 use Rattle.agreement.specs.Machine.{NotZero, posted, answered, Act, EachStep, side_of, after, opening}
 use Rattle.agreement.specs.Agreed.{Had, Settled, Agreed}

@@ -4,7 +4,7 @@
 use Rattle.std.specs.Prelude.{ℕ, ◌≡◌, List}
 use Rattle.std.proofs.Common.{ap, sym, ◌∙◌}
 use Rattle.recording.specs.declared.Seat.{Seat}
-use Rattle.loom.specs.declared.Side.{Side}
+use Rattle.sides.specs.declared.Side.{Side}
 use Rattle.loom.specs.Turn.{Rules}
 use Rattle.agreement.specs.Machine.{NotZero, Act, EachStep, after, opening}
 use Rattle.agreement.specs.Figure.{Value, Access, Objects, access, ran, initial}

@@ -8,13 +8,14 @@ use Rattle.std.proofs.Math.Option.{none}
 use mathlib.Core.List.{List, [], ◌∷◌}
 use Rattle.recording.specs.declared.Seat.{Seat}
 use Rattle.recording.specs.Recording.{operation_at}
-use Rattle.loom.specs.declared.Side.{Side}
-use Rattle.loom.specs.declared.Side.TheVariants.{A, B}
+use Rattle.sides.specs.declared.Side.{Side}
+use Rattle.sides.specs.declared.Side.TheVariants.{A, B}
 use Rattle.loom.specs.declared.Place.{Place}
 use Rattle.loom.specs.declared.Place.TheVariants.{Begin, Posted, Looking, Ready, Applied, Bound, Answered}
-use Rattle.loom.specs.Sides.{other, same_side, register}
+use Rattle.sides.specs.Sides.{other, same_side}
+use Rattle.loom.specs.Sides.{register}
 use Rattle.loom.specs.Turn.{Rules, turn_of}
-use Rattle.loom.specs.SidesLaws.{same_as_itself}
+use Rattle.sides.specs.SidesLaws.{same_as_itself}
 use Rattle.agreement.specs.Machine.{NotZero, Act, step, restart, restart_all, EachStep, State, side_of, changed_at, with_post, with_said, turned, stepped_from, stepped, acted, after, opening}
 use Rattle.agreement.proofs.MachineLaws.{changed_itself, changed_other}
 use Rattle.agreement.proofs.LogLaws.{changed_all}

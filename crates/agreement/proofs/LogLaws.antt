@@ -3,10 +3,12 @@
 use Rattle.std.specs.Prelude.{ℕ, ◌≡◌, refl, Bool, true, false, cond, ◌⊎◌, List, [], ◌∷◌, ◌++◌, eqb}
 use Rattle.std.proofs.Common.{arith, ap, sym, ◌∙◌, inl, inr, append_assoc, eqb-true}
 use Rattle.std.proofs.lemmas.Bool.{eqb-false}
-use Rattle.loom.specs.declared.Side.{Side}
+use Rattle.sides.specs.declared.Side.{Side}
 use Rattle.loom.specs.declared.Shared.{Shared}
-use Rattle.loom.specs.Sides.{other, register, with_register, with_cell}
-use Rattle.loom.specs.SidesLaws.{same_or_other, register_written, register_kept, register_untouched}
+use Rattle.sides.specs.Sides.{other}
+use Rattle.loom.specs.Sides.{register, with_register, with_cell}
+use Rattle.sides.specs.SidesLaws.{same_or_other}
+use Rattle.loom.specs.SidesLaws.{register_written, register_kept, register_untouched}
 use Rattle.agreement.specs.Machine.{NotZero, Event, posted, applied, answered, changed_at}
 use Rattle.agreement.specs.Agreed.{Came, Had, NoneApplied, Settled}
 use Rattle.agreement.specs.Phases.{Fits, AllFit, Honest}

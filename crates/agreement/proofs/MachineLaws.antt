@@ -6,7 +6,7 @@ use Rattle.std.proofs.Common.{sym, eq-eqb, ne_eqb, lt-ltb, le-ltb}
 use Rattle.std.proofs.Math.Bool.{true, false}
 use Rattle.recording.specs.declared.Seat.{Seat}
 use Rattle.recording.specs.Recording.{operation_at}
-use Rattle.loom.specs.declared.Side.{Side}
+use Rattle.sides.specs.declared.Side.{Side}
 use Rattle.loom.specs.declared.Place.TheVariants.{Begin, Answered}
 use Rattle.loom.specs.Turn.{Rules, turn_of}
 use Rattle.agreement.specs.Machine.{Act, step, restart, restart_all, EachStep, State, side_of, changed_at, with_post, with_said, turned, stepped_from, stepped, acted}

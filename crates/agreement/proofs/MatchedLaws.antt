@@ -6,13 +6,15 @@ use Rattle.std.proofs.Common.{◌∙◌}
 use Rattle.std.proofs.Math.Bool.{cond, and-true}
 use Rattle.std.proofs.Math.Option.{none, some}
 use Rattle.recording.specs.declared.Seat.{Seat}
-use Rattle.loom.specs.declared.Side.{Side}
-use Rattle.loom.specs.declared.Side.TheVariants.{A, B}
+use Rattle.sides.specs.declared.Side.{Side}
+use Rattle.sides.specs.declared.Side.TheVariants.{A, B}
 use Rattle.loom.specs.declared.Place.TheVariants.{Looking, Ready, Bound}
 use Rattle.loom.specs.declared.Shared.{Shared}
-use Rattle.loom.specs.Sides.{other, same_side, register, with_cell}
+use Rattle.sides.specs.Sides.{other, same_side}
+use Rattle.loom.specs.Sides.{register, with_cell}
 use Rattle.loom.specs.Turn.{Rules, Turn, turn_of, decided, looks, after_posted, after_looking}
-use Rattle.loom.specs.SidesLaws.{other_other, same_as_itself, cell_kept, register_written, register_kept, register_untouched}
+use Rattle.sides.specs.SidesLaws.{other_other, same_as_itself}
+use Rattle.loom.specs.SidesLaws.{cell_kept, register_written, register_kept, register_untouched}
 use Rattle.agreement.specs.Machine.{NotZero, Event, with_post, with_said}
 use Rattle.agreement.specs.Figure.{Team, team_a, team_b, Value, Line, line5, line6, line7, line9, line11, line16, line17, line18, line20, line22, line23, line26, Access, at5, at6, at8, at9, at11, at12, at16, at17, at19, at20, at22, at23, at26, at27, Process, running, returned, Objects, Return, Done, Setting, test, after_line19, access, with_return, ahead}
 use Rattle.agreement.specs.Matched.{side_of_team, setting_of, number, place_at, place_of, Given, answers_of, returns_of}

@@ -10,14 +10,16 @@ use Rattle.std.proofs.Math.Dec.{ltb}
 use Rattle.std.proofs.lemmas.Bool.{eqb-false}
 use Rattle.recording.specs.declared.Seat.{Seat}
 use Rattle.recording.specs.Recording.{operation_at, side_count, times, Sequence, reached, InSet}
-use Rattle.loom.specs.declared.Side.{Side}
-use Rattle.loom.specs.declared.Side.TheVariants.{A, B}
+use Rattle.sides.specs.declared.Side.{Side}
+use Rattle.sides.specs.declared.Side.TheVariants.{A, B}
 use Rattle.loom.specs.declared.Place.{Place}
 use Rattle.loom.specs.declared.Place.TheVariants.{Begin, Posted, Looking, Ready, Applied, Bound, Answered}
 use Rattle.loom.specs.declared.Shared.{Shared}
-use Rattle.loom.specs.Sides.{side_number, other, same_side, register, with_register, with_cell}
+use Rattle.sides.specs.Sides.{side_number, other, same_side}
+use Rattle.loom.specs.Sides.{register, with_register, with_cell}
 use Rattle.loom.specs.Turn.{Rules, turn_of, decided, looks, after_posted, after_looking}
-use Rattle.loom.specs.SidesLaws.{same_or_other, other_other, same_side_lem, same_as_itself, cell_kept, register_written, register_untouched}
+use Rattle.sides.specs.SidesLaws.{same_or_other, other_other, same_side_lem, same_as_itself}
+use Rattle.loom.specs.SidesLaws.{cell_kept, register_written, register_untouched}
 use Rattle.agreement.specs.Machine.{NotZero, Event, posted, applied, answered, Act, step, restart, restart_all, EachStep, State, side_of, changed_at, with_post, with_said, turned, replaced, stepped_from, stepped, acted, after, opening}
 use Rattle.agreement.specs.Agreed.{NoneApplied}
 use Rattle.agreement.specs.Fitted.{Fitted}

@@ -3,11 +3,11 @@
 -- Assumes nothing.
 use Rattle.std.specs.Prelude.{ℕ, ◌≡◌, refl, Bool, true, false, ◌||◌, List, [], ◌∷◌, ◌++◌}
 use Rattle.std.proofs.Common.{arith}
-use Rattle.loom.specs.declared.Side.{Side}
-use Rattle.loom.specs.declared.Side.TheVariants.{A, B}
-use Rattle.loom.specs.Sides.{same_side}
+use Rattle.sides.specs.declared.Side.{Side}
+use Rattle.sides.specs.declared.Side.TheVariants.{A, B}
+use Rattle.sides.specs.Sides.{same_side}
 use Rattle.loom.specs.Turn.{turn_of, after_posted, after_looking}
-use Rattle.loom.specs.SidesLaws.{same_side_lem}
+use Rattle.sides.specs.SidesLaws.{same_side_lem}
 use Rattle.agreement.specs.Machine.{Event, posted, applied, answered, restart, changed_at, with_post, with_said, turned, stepped_from, stepped, acted, after}
 use Rattle.agreement.specs.Agreed.{Agreed}
 use Rattle.agreement.proofs.LogLaws.{had_latest, HadAnswer, answer_still}

@@ -10,11 +10,12 @@ use Rattle.std.proofs.Math.Dec.{eqb_refl}
 use Rattle.std.proofs.lemmas.Bool.{eqb-false}
 use Rattle.recording.specs.declared.Seat.{Seat}
 use Rattle.recording.specs.Recording.{operation_at, one}
-use Rattle.loom.specs.declared.Side.{Side}
+use Rattle.sides.specs.declared.Side.{Side}
 use Rattle.loom.specs.declared.Place.{Place}
 use Rattle.loom.specs.declared.Place.TheVariants.{Begin, Posted, Looking, Ready, Applied, Bound, Answered}
 use Rattle.loom.specs.declared.Shared.{Shared}
-use Rattle.loom.specs.Sides.{other, register}
+use Rattle.sides.specs.Sides.{other}
+use Rattle.loom.specs.Sides.{register}
 use Rattle.loom.specs.Turn.{Rules, has_answered, turn_of, decided, looks, after_posted, after_looking}
 use Rattle.agreement.specs.Machine.{Event, answered, Act, step, restart, restart_all, State, side_of, with_post, with_said, turned, stepped_from, stepped, acted, after}
 use Rattle.agreement.specs.Agreed.{Had}

@@ -4,10 +4,10 @@ use Rattle.std.specs.Prelude.{ℕ, ◌<◌, ◌≡◌, refl, Bool, true, false, 
 use Rattle.std.proofs.Common.{arith, ap, sym, ◌∙◌, inl, inr}
 use Rattle.recording.specs.declared.Seat.{Seat}
 use Rattle.recording.specs.Recording.{side_at, operation_at, side_count, times, Sequence, reached, InSet}
-use Rattle.loom.specs.declared.Side.{Side}
-use Rattle.loom.specs.declared.Side.TheVariants.{A, B}
-use Rattle.loom.specs.Sides.{side_number, side_from, other}
-use Rattle.loom.specs.SidesLaws.{side_of_number, same_or_other, number_of_side}
+use Rattle.sides.specs.declared.Side.{Side}
+use Rattle.sides.specs.declared.Side.TheVariants.{A, B}
+use Rattle.sides.specs.Sides.{side_number, side_from, other}
+use Rattle.sides.specs.SidesLaws.{side_of_number, same_or_other, number_of_side}
 use Rattle.loom.specs.Turn.{Rules, decided}
 use Rattle.agreement.specs.Machine.{side_of}
 use Rattle.agreement.specs.Fitted.{Fitted}

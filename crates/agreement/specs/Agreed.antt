@@ -1,7 +1,7 @@
 -- Demand 3, as a statement on a log of events.
 -- Assumes nothing.
 use Rattle.std.specs.Prelude.{ℕ, ◌≡◌, List, ◌∷◌, ◌++◌}
-use Rattle.loom.specs.declared.Side.{Side}
+use Rattle.sides.specs.declared.Side.{Side}
 use Rattle.agreement.specs.Machine.{Event, posted, applied, answered}
 
 -- The event e came, and `older` is the log as it was before. (A log has its latest event first.)

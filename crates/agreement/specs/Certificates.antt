@@ -5,8 +5,8 @@ use Rattle.cell.specs.Table.{entry_of}
 use Rattle.recording.specs.declared.Seat.{Seat}
 use Rattle.recording.specs.Known as known
 use Rattle.recording.specs.Known.{of_a, of_b}
-use Rattle.loom.specs.declared.Side.{Side}
-use Rattle.loom.specs.declared.Side.TheVariants.{A, B}
+use Rattle.sides.specs.declared.Side.{Side}
+use Rattle.sides.specs.declared.Side.TheVariants.{A, B}
 use Rattle.loom.specs.Turn.{Rules}
 use Rattle.agreement.specs.Machine.{Event, Act, step, side_of, after, opening}
 

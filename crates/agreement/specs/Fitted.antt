@@ -3,7 +3,7 @@
 use Rattle.std.specs.Prelude.{ℕ, ◌≤◌, ◌≡◌, true, ◌↔◌, List}
 use Rattle.recording.specs.declared.Seat.{Seat}
 use Rattle.recording.specs.Recording.{side_at, side_count, InSet, Recording}
-use Rattle.loom.specs.Sides.{side_number, other}
+use Rattle.sides.specs.Sides.{side_number, other}
 use Rattle.loom.specs.Turn.{Rules}
 
 -- The rules R render 003's sets: its start, the set of the leading side, and whether the yielding side has one loom.

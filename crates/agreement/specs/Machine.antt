@@ -5,13 +5,13 @@
 use Rattle.std.specs.Prelude.{ℕ, ◌≡◌, cond, List, [], ◌∷◌, eqb, ltb, length}
 use Rattle.recording.specs.declared.Seat.{Seat}
 use Rattle.recording.specs.Recording.{side_at, operation_at}
-use Rattle.loom.specs.declared.Side.{Side}
+use Rattle.sides.specs.declared.Side.{Side}
 use Rattle.loom.specs.declared.Place.{Place}
 use Rattle.loom.specs.declared.Place.TheVariants.{Begin, Posted, Looking, Ready, Applied, Bound, Answered}
 use Rattle.loom.specs.declared.Shared.{Shared}
 use Rattle.loom.specs.declared.Said.{Said}
 use Rattle.loom.specs.declared.Said.TheVariants.{Nothing, Application, Answer}
-use Rattle.loom.specs.Sides.{side_from}
+use Rattle.sides.specs.Sides.{side_from}
 use Rattle.loom.specs.Turn.{Rules, Turn, turn_of}
 
 -- A number that can be posted: "0 means not posted".
@@ -103,4 +103,4 @@ module _ (next : ℕ → ℕ → ℕ) (looms : List Seat) (R : Rules) where
 
 -- As a group opens: the cell at the start, both registers 0, every loom at begin; and nothing has happened.
 abbrev pub opening : ℕ → State
-opening start = record { shared = record { cell = start; a = 0; b = 0 }; place = λ k. Begin; log = [] }
+opening start = record { shared = record { cell = start; registers = record { a = 0; b = 0 } }; place = λ k. Begin; log = [] }

@@ -6,10 +6,11 @@ use Rattle.std.specs.Prelude.{ℕ, ◌≡◌, cond, List, [], ◌∷◌, length}
 use Rattle.std.proofs.Math.Option.{none, some}
 use Rattle.recording.specs.declared.Seat.{Seat}
 use Rattle.recording.specs.Recording.{operation_at}
-use Rattle.loom.specs.declared.Side.{Side}
+use Rattle.sides.specs.declared.Side.{Side}
 use Rattle.loom.specs.declared.Place.{Place}
 use Rattle.loom.specs.declared.Place.TheVariants.{Begin, Posted, Looking, Ready, Applied, Bound, Answered}
-use Rattle.loom.specs.Sides.{other, same_side, register}
+use Rattle.sides.specs.Sides.{other, same_side}
+use Rattle.loom.specs.Sides.{register}
 use Rattle.loom.specs.Turn.{Rules}
 use Rattle.agreement.specs.Machine.{Event, posted, applied, answered, State, side_of}
 use Rattle.agreement.specs.Figure.{Team, team_a, team_b, Value, Access, at5, at6, at8, at9, at11, at12, at16, at17, at19, at20, at22, at23, at26, at27, Process, running, returned, Return, System, Setting, ahead}

@@ -6,11 +6,12 @@
 use Rattle.std.specs.Prelude.{ℕ, ◌<◌, ◌≡◌, Bool, true, false, List, [], ◌∷◌, T, length}
 use Rattle.recording.specs.declared.Seat.{Seat}
 use Rattle.recording.specs.Recording.{times, Sequence, reached}
-use Rattle.loom.specs.declared.Side.{Side}
+use Rattle.sides.specs.declared.Side.{Side}
 use Rattle.loom.specs.declared.Place.{Place}
 use Rattle.loom.specs.declared.Place.TheVariants.{Begin, Posted, Looking, Ready, Applied, Bound, Answered}
 use Rattle.loom.specs.declared.Shared.{Shared}
-use Rattle.loom.specs.Sides.{side_number, other, register}
+use Rattle.sides.specs.Sides.{side_number, other}
+use Rattle.loom.specs.Sides.{register}
 use Rattle.loom.specs.Turn.{Rules}
 use Rattle.agreement.specs.Machine.{NotZero, Event, posted, applied, answered, State, side_of}
 use Rattle.agreement.specs.Agreed.{Had, NoneApplied}

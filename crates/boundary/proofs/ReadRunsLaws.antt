@@ -1,7 +1,8 @@
 -- The schedule of a file that is taken: every entry names an act, and there aren't too many.
 -- Assumes nothing.
-use Rattle.std.specs.Prelude.{ℕ, zero, suc, ◌+◌, ◌*◌, ◌≤◌, ◌<◌, ◌≡◌, refl, true, List, length}
+use Rattle.std.specs.Prelude.{ℕ, zero, suc, ◌+◌, ◌*◌, ◌≤◌, ◌<◌, ◌≡◌, refl, true, Ok, List, length}
 use Rattle.std.proofs.Common.{sym, subst, ◌∙◌, suc-mul, zero-mul, arith, le-ltb}
+use Rattle.codes.specs.declared.Code.TheVariants.{Act}
 use Rattle.cell.specs.Limits.{edition}
 use Rattle.xdr.specs.Field.{word_at}
 use Rattle.xdr.specs.FieldLaws.{field_taken, run_taken}
@@ -16,7 +17,7 @@ use Rattle.boundary.specs.EntriesLaws.{named_alike}
 
 all_named_lem : (looms : ℕ) (s : List ℕ) (n p : ℕ) → looms ≤ edition.looms → ((j : ℕ) → j < n → names_act looms (word_at s (p + j * 4)) ≡ true)
     → all_named looms (words_at s n p) ≡ true
-unfolding all_named words_at
+unfolding words_at
 all_named_lem looms s zero p few each = refl
 all_named_lem looms s (suc n) p few each =
     let first : names_act looms (word_at s p) ≡ true =
@@ -27,7 +28,7 @@ all_named_lem looms s (suc n) p few each =
     rw (sym (named_alike looms (word_at s p) few) ∙ first, rest)
 
 pub none_refuses : (s : List ℕ) → Passes edition s (plan_of s) → (room : ℕ) → (plan_of s).acts ≤ room
-    → refusal_of (plan_of s).looms (words_at s (plan_of s).acts ((plan_of s).schedule + 4)) room ≡ 0
+    → refusal_of (plan_of s).looms (words_at s (plan_of s).acts ((plan_of s).schedule + 4)) room ≡ Ok tt
 unfolding refusal_of item_at
 none_refuses s passes room enough =
     let limits = bounds edition s passes in
@@ -36,6 +37,6 @@ none_refuses s passes room enough =
     rw (
       le-ltb edition.entries (length (words_at s (plan_of s).acts ((plan_of s).schedule + 4))) (omega (arith, long, limits.count)),
       all_named_lem (plan_of s).looms s (plan_of s).acts ((plan_of s).schedule + 4) limits.looms
-          (λ j below. (field_taken (names_act (plan_of s).looms) 13 s ((plan_of s).schedule + 4 + j * 4) (acts j below).0 (acts j below).1).good),
+          (λ j below. (field_taken (names_act (plan_of s).looms) Act s ((plan_of s).schedule + 4 + j * 4) (acts j below).0 (acts j below).1).good),
       le-ltb room (length (words_at s (plan_of s).acts ((plan_of s).schedule + 4))) (omega (arith, long, enough)),
     )

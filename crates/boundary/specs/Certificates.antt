@@ -4,6 +4,7 @@ use Rattle.std.specs.Prelude.{ℕ, List, [], ◌∷◌, get_or, set}
 use Rattle.recording.specs.declared.Seat.{Seat}
 use Rattle.recording.specs.declared.Certificate.{Certificate}
 use Rattle.recording.specs.declared.Checked.{Checked}
+use Rattle.boundary.specs.Numbers.{refusal_number, refusal_place}
 
 -- The seat of the numbers at i and j.
 abbrev pub seat_from : List ℕ → ℕ → ℕ → Seat
@@ -21,4 +22,5 @@ certificate_from start count ns = record { start = start; count = count; seats =
 
 -- The numbers with an answer of the check's written: code, place and the two sizes.
 abbrev pub with_checked : List ℕ → Checked → List ℕ
-with_checked ns c = set (set (set (set ns 0 c.code) 1 c.place) 2 c.a) 3 c.b
+with_checked ns c =
+    set (set (set (set ns 0 (refusal_number c.outcome)) 1 (refusal_place c.outcome)) 2 c.sizes.a) 3 c.sizes.b

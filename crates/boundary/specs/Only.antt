@@ -1,21 +1,21 @@
 -- Nothing else meets the contracts of `src/`: each is the library's own, and so is the lemma.
 -- Assumes nothing.
-use Rattle.std.specs.Prelude.{ℕ, ◌≡◌, Bool, List, [], length}
+use Rattle.std.specs.Prelude.{ℕ, ◌≡◌, Bool, Option, Result, List, [], length}
 use Rattle.std.proofs.Common.{sym, ◌∙◌}
 use Rattle.sets.specs.Sets.{has_of, Union, Common, Inserted, size_of, lowest_of, word_bits}
 use Rattle.sets.specs.Only.{only-has, only-union, only-common, only-insert, only-size, only-lowest}
 use Rattle.cell.specs.Table.{form_of, next_of}
-use Rattle.cell.specs.Catalogue.{Catalogued}
-use Rattle.cell.specs.Only.{only-catalogue}
 use Rattle.recording.specs.declared.Certificate.{Certificate}
 use Rattle.recording.specs.Check.{check_of, area_of}
 use Rattle.group.specs.declared.Group.{Group}
-use Rattle.group.specs.declared.Opened.{Opened}
+use Rattle.codes.specs.declared.Code.{Code}
+use Rattle.codes.specs.declared.Refusal.{Refusal}
 use Rattle.schedule.specs.declared.Ran.{Ran}
 use Rattle.order.specs.Label.{by_side, trim_of}
 use Rattle.group.specs.declared.Stepped.{Stepped}
 use Rattle.group.specs.declared.Restarted.{Restarted}
-use Rattle.boundary.specs.Numbers.{moved_number}
+use Rattle.boundary.specs.Numbers.{moved_number, code_number, refusal_number, refusal_place, Catalogues}
+use Rattle.group.specs.Open.{group_or_none}
 use Rattle.boundary.specs.Certificates.{certificate_from, with_checked}
 use Rattle.boundary.specs.Groups.{in_byte, in_half, loom_from, with_group, with_said, Opens, Steps, Restarts}
 use Rattle.boundary.specs.Records.{LentSteps}
@@ -44,15 +44,15 @@ only-linuktabay_size = only-size
 pub only-linuktabay_lowest : (set r s : ℕ) → r ≡ lowest_of word_bits set → s ≡ lowest_of word_bits set → r ≡ s
 only-linuktabay_lowest = only-lowest
 
-pub only-linuktabay_catalogue : (n : ℕ) (room : List ℕ) (r s : ℕ) (a b : List ℕ) → Catalogued n room r a → Catalogued n room s b → (r ≡ s) × (a ≡ b)
-only-linuktabay_catalogue = only-catalogue
+pub only-linuktabay_catalogue : (n : ℕ) (room : List ℕ) (r s : ℕ) (a b : List ℕ) → Catalogues n room r a → Catalogues n room s b → (r ≡ s) × (a ≡ b)
+only-linuktabay_catalogue n room r s a b p q = (p.its_code ∙ sym q.its_code, p.its_room ∙ sym q.its_room)
 
 pub only-linuktabay_form_code : (table : List ℕ) (states operations r s : ℕ)
-    → r ≡ (form_of table states operations).code → s ≡ (form_of table states operations).code → r ≡ s
+    → r ≡ refusal_number (form_of table states operations) → s ≡ refusal_number (form_of table states operations) → r ≡ s
 only-linuktabay_form_code table states operations r s p q = p ∙ sym q
 
 pub only-linuktabay_form_place : (table : List ℕ) (states operations r s : ℕ)
-    → r ≡ (form_of table states operations).place → s ≡ (form_of table states operations).place → r ≡ s
+    → r ≡ refusal_place (form_of table states operations) → s ≡ refusal_place (form_of table states operations) → r ≡ s
 only-linuktabay_form_place table states operations r s p q = p ∙ sym q
 
 pub only-linuktabay_next : (table : List ℕ) (states o q r s : ℕ)
@@ -71,7 +71,7 @@ pub only-linuktabay_check : (table : List ℕ) (states operations : ℕ) (c : Ce
 only-linuktabay_check table states operations c out area x y a b p q = (p.0 ∙ sym q.0, p.1 ∙ sym q.1)
 
 -- The code, the group's numbers and, where there is one, the area or what was said.
-pub only-linuktabay_open : (answer : Opened) (words group : List ℕ) (r s : ℕ) (g h a b : List ℕ)
+pub only-linuktabay_open : (answer : Result Group Code) (words group : List ℕ) (r s : ℕ) (g h a b : List ℕ)
     → Opens answer words group r g a → Opens answer words group s h b → (r ≡ s) × (g ≡ h) × (a ≡ b)
 only-linuktabay_open answer words group r s g h a b p q =
     (p.its_code ∙ sym q.its_code, p.its_group ∙ sym q.its_group, p.its_area ∙ sym q.its_area)
@@ -90,7 +90,7 @@ pub only-linuktabay_restart_all : (answer : Restarted) (group : List ℕ) (r s :
 only-linuktabay_restart_all = only-linuktabay_restart
 
 -- The marks, the area, the final group's numbers and the counts.
-pub only-linuktabay_run : (answer : Ran) (marked words group out : List ℕ) (m n a b g h x y : List ℕ)
+pub only-linuktabay_run : (answer : Result Ran Code) (marked words group out : List ℕ) (m n a b g h x y : List ℕ)
     → Runs answer marked words group out m a g x → Runs answer marked words group out n b h y → (m ≡ n) × (a ≡ b) × (g ≡ h) × (x ≡ y)
 only-linuktabay_run answer marked words group out m n a b g h x y p q =
     (p.its_marks ∙ sym q.its_marks, p.its_area ∙ sym q.its_area, p.its_group ∙ sym q.its_group, p.its_counts ∙ sym q.its_counts)
@@ -129,3 +129,18 @@ only-loom_from side operation place steps r s p q = p ∙ sym q
 
 pub only-with_said : (ns : List ℕ) (said : Said) (steps : ℕ) (r s : List ℕ) → r ≡ with_said ns said steps → s ≡ with_said ns said steps → r ≡ s
 only-with_said ns said steps r s p q = p ∙ sym q
+
+pub only-group_or_none : (opened : Result Group Code) (r s : Group) → r ≡ group_or_none opened → s ≡ group_or_none opened → r ≡ s
+only-group_or_none opened r s p q = p ∙ sym q
+
+pub only-code_number : {T : Type 0} (answer : Result T Code) (r s : ℕ) → r ≡ code_number answer → s ≡ code_number answer → r ≡ s
+only-code_number answer r s p q = p ∙ sym q
+
+pub only-refusal_number : {T : Type 0} (answer : Result T Refusal) (r s : ℕ) → r ≡ refusal_number answer → s ≡ refusal_number answer → r ≡ s
+only-refusal_number answer r s p q = p ∙ sym q
+
+pub only-refusal_place : {T : Type 0} (answer : Result T Refusal) (r s : ℕ) → r ≡ refusal_place answer → s ≡ refusal_place answer → r ≡ s
+only-refusal_place answer r s p q = p ∙ sym q
+
+pub only-moved_number : (moved : Option ℕ) (r s : ℕ) → r ≡ moved_number moved → s ≡ moved_number moved → r ≡ s
+only-moved_number moved r s p q = p ∙ sym q

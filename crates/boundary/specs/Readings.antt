@@ -1,21 +1,17 @@
 -- What a reader says, as numbers, for C.
 -- Assumes nothing.
-use Rattle.std.specs.Prelude.{ℕ, List, set}
-use Rattle.xdr.specs.declared.Field.{Field}
-use Rattle.xdr.specs.declared.Field.TheVariants.{Is, Not}
+use Rattle.std.specs.Prelude.{ℕ, Result, Ok, Err, List, set}
+use Rattle.codes.specs.declared.Refusal.{Refusal}
 use Rattle.reader.specs.declared.Reading.{Reading}
+use Rattle.boundary.specs.Numbers.{refusal_number}
 
--- A field's answer: its code, 0 where it is taken, and its value or the place of its refusal.
-abbrev pub field_code : Field → ℕ
-field_code (Is v) = 0
-field_code (Not code place) = code
-
-abbrev pub field_value : Field → ℕ
-field_value (Is v) = v
-field_value (Not code place) = place
+-- What a field's answer says: its value, or the place of its refusal. Its code is its refusal's, 0 where it is taken.
+abbrev pub field_value : Result ℕ Refusal → ℕ
+field_value (Ok v) = v
+field_value (Err refusal) = refusal.place
 
 -- The numbers with a reading's written.
-unfoldable pub with_reading : List ℕ → Reading → List ℕ
+abbrev pub with_reading : List ℕ → Reading → List ℕ
 with_reading ns r =
-    set (set (set (set (set (set ns 0 (field_code r.word)) 1 (field_value r.word)) 2 (field_code r.end)) 3 (field_value r.end)) 4 r.next) 5
+    set (set (set (set (set (set ns 0 (refusal_number r.word)) 1 (field_value r.word)) 2 (refusal_number r.end)) 3 (field_value r.end)) 4 r.next) 5
     r.left

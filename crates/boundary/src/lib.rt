@@ -1,6 +1,7 @@
 // What C programs call, for the tests and the benchmarks: each function is the library's, on numbers and lent slices alone.
 #![tactic(auto)]
 
+mod numbers;
 mod of_cell;
 mod of_group;
 mod of_lent;

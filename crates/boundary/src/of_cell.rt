@@ -1,36 +1,38 @@
 // The floor `cell`.
-ghost use Rattle.std.specs.Prelude.{◌≡◌, ◌+◌};
+ghost use Rattle.std.specs.Prelude.{◌≡◌};
 ghost use Rattle.cell.specs.Table.{form_of, next_of};
-ghost use Rattle.cell.specs.Catalogue.{Catalogued};
-ghost use Rattle.boundary.specs.Numbers.{moved_number};
+ghost use Rattle.boundary.specs.Numbers.{moved_number, refusal_number, refusal_place, Catalogues};
 
-use cell::Moved;
+use crate::numbers;
+use cell::Table;
 
 // `cell::catalogue`.
 #[unsafe(no_mangle)]
 pub extern "C" fn linuktabay_catalogue(n: usize, room: &mut [u8]) -> u8
-    ensures { Catalogued n room.old result room.new }
+    ensures { Catalogues n room.old result room.new }
 {
-    cell::catalogue(n, room)
+    numbers::code_number(cell::catalogue(n, room))
 }
 
-// The code of `cell::form`.
+// The code of a table's form.
 #[unsafe(no_mangle)]
 pub extern "C" fn linuktabay_form_code(table: &[u8], states: usize, operations: usize) -> u8
-    ensures { result ≡ (form_of table.now states operations).code }
+    ensures { result ≡ refusal_number (form_of table.now states operations) }
 {
-    cell::form(table, states, operations).code
+    let table = Table::new(table, states, operations);
+    numbers::refusal_number(table.form())
 }
 
-// The place of `cell::form`.
+// The place of a table's form: for C, a call of its own.
 #[unsafe(no_mangle)]
 pub extern "C" fn linuktabay_form_place(table: &[u8], states: usize, operations: usize) -> usize
-    ensures { result ≡ (form_of table.now states operations).place }
+    ensures { result ≡ refusal_place (form_of table.now states operations) }
 {
-    cell::form(table, states, operations).place
+    let table = Table::new(table, states, operations);
+    numbers::refusal_place(table.form())
 }
 
-// `cell::next`: 0 where it is refused, else one more than the next state.
+// A table's lookup: 0 where there is no such entry, else one more than the next state.
 #[unsafe(no_mangle)]
 pub extern "C" fn linuktabay_next(
     table: &[u8],
@@ -40,22 +42,7 @@ pub extern "C" fn linuktabay_next(
 ) -> usize
     ensures { result ≡ moved_number (next_of table.now states operation state) }
 {
-    moved_number(cell::next(table, states, operation, state))
-}
-
-// The number of a lookup's answer.
-fn moved_number(moved: Moved) -> usize
-    ensures { result ≡ moved_number moved }
-{
-    match moved {
-        Moved::To(state) => one_more(state),
-        Moved::Refused => 0,
-    }
-}
-
-// One more than a state.
-fn one_more(state: u8) -> usize
-    ensures { result ≡ state + 1 }
-{
-    state as usize + 1
+    // the lookup doesn't ask how many operations there are
+    let table = Table::new(table, states, 0);
+    numbers::moved_number(table.next(operation, state))
 }

@@ -1,14 +1,19 @@
 // The floor `group`.
 ghost use Rattle.std.specs.Prelude.{◌≡◌, length, ◌≤◌};
 ghost use Rattle.recording.specs.Check.{area_of};
-ghost use Rattle.group.specs.Open.{open_of, pieces};
+ghost use Rattle.group.specs.Open.{open_of, pieces, group_or_none};
 ghost use Rattle.boundary.specs.Certificates.{certificate_from};
 ghost use Rattle.group.specs.Step.{step_of, restart_of, restart_all_of};
-ghost use Rattle.boundary.specs.Groups.{in_byte, in_half, loom_from, slot_from, shared_from, pieces_from, sets_from, looms_from, group_from, with_four, with_loom, with_board, with_group, with_said, Restarts, Steps, Opens};
+ghost use Rattle.boundary.specs.Groups.{in_byte, in_half, loom_from, slot_from, shared_from, pieces_from, sets_from, looms_from};
+ghost use Rattle.boundary.specs.Groups.{group_from, with_four, with_loom, with_board, with_group, with_said, with_told, Restarts, Steps, Opens};
 
+use crate::numbers::code_number;
 use crate::of_recording::certificate_from;
-use group::{Group, Numbers, Sets};
-use loom::{Loom, Said, Shared};
+use cell::Table;
+use codes::Code;
+use group::{Group, Told};
+use loom::{Loom, Place, Said, Shared};
+use sides::{Pair, Side};
 
 // A number of C's in a byte.
 pub fn in_byte(n: usize) -> u8
@@ -24,26 +29,19 @@ pub fn in_half(n: usize) -> u32
     (n % 4294967296) as u32
 }
 
-// A byte as a number of C's.
-fn wide(byte: u8) -> usize
-    ensures { result ≡ byte }
-{
-    byte as usize
-}
-
 // The loom of four numbers.
 pub fn loom_from(side: usize, operation: usize, place: usize, steps: usize) -> Loom
     ensures { result ≡ loom_from side operation place steps }
 {
     Loom {
-        side: loom::side_from(side),
+        side: Side::from(side),
         operation: in_byte(operation),
         steps: in_byte(steps),
-        place: loom::place_from(in_byte(place)),
+        place: Place::from(in_byte(place)),
     }
 }
 
-// The loom of the four numbers from i on.
+// The loom of the four numbers from i on. C's numbers stand at fixed places: eight slots of four, each written out.
 fn slot_from(n: [usize; 41], i: usize) -> Loom
     requires { i ≤ 37 }
     ensures { result ≡ slot_from n i }
@@ -57,26 +55,28 @@ fn shared_from(n: [usize; 41]) -> Shared
 {
     Shared {
         cell: in_byte(n[1]),
-        a: in_half(n[2]),
-        b: in_half(n[3]),
+        registers: Pair {
+            a: in_half(n[2]),
+            b: in_half(n[3]),
+        },
     }
 }
 
 // The piece numbers of the numbers.
-fn pieces_from(n: [usize; 41]) -> Numbers
+fn pieces_from(n: [usize; 41]) -> Pair<u32>
     ensures { result ≡ pieces_from n }
 {
-    Numbers {
+    Pair {
         a: in_half(n[4]),
         b: in_half(n[5]),
     }
 }
 
 // The two sets of the numbers.
-fn sets_from(n: [usize; 41]) -> Sets
+fn sets_from(n: [usize; 41]) -> Pair<u64>
     ensures { result ≡ sets_from n }
 {
-    Sets {
+    Pair {
         a: n[7] as u64,
         b: n[8] as u64,
     }
@@ -112,7 +112,7 @@ fn group_from(n: [usize; 41]) -> Group
     }
 }
 
-// The numbers with four of them written from i on.
+// The numbers with four of them written from i on, so that what follows i is there.
 fn with_four(
     n: [usize; 41],
     i: usize,
@@ -137,15 +137,13 @@ fn with_loom(n: [usize; 41], i: usize, loom: Loom) -> [usize; 41]
     requires { i ≤ 37 }
     ensures { result ≡ with_loom n i loom }
 {
-    let side = loom.side;
-    let place = loom.place;
     with_four(
         n,
         i,
-        wide(loom::side_number(side)),
-        wide(loom.operation),
-        wide(loom::place_number(place)),
-        wide(loom.steps),
+        u8::from(loom.side).into(),
+        loom.operation.into(),
+        u8::from(loom.place).into(),
+        loom.steps.into(),
     )
 }
 
@@ -153,19 +151,16 @@ fn with_loom(n: [usize; 41], i: usize, loom: Loom) -> [usize; 41]
 fn with_board(n: [usize; 41], group: Group) -> [usize; 41]
     ensures { result ≡ with_board n group }
 {
-    let shared = group.shared;
-    let numbers = group.numbers;
-    let sets = group.sets;
     let mut out = n;
     out[0] = group.count;
-    out[1] = wide(shared.cell);
-    out[2] = shared.a as usize;
-    out[3] = shared.b as usize;
-    out[4] = numbers.a as usize;
-    out[5] = numbers.b as usize;
-    out[6] = wide(group.start);
-    out[7] = sets.a as usize;
-    out[8] = sets.b as usize;
+    out[1] = group.shared.cell.into();
+    out[2] = group.shared.registers.a as usize;
+    out[3] = group.shared.registers.b as usize;
+    out[4] = group.numbers.a as usize;
+    out[5] = group.numbers.b as usize;
+    out[6] = group.start.into();
+    out[7] = group.sets.a as usize;
+    out[8] = group.sets.b as usize;
     out
 }
 
@@ -184,16 +179,24 @@ pub fn with_group(n: [usize; 41], group: Group) -> [usize; 41]
     with_loom(n7, 37, looms[7])
 }
 
-// `group::restart`: the code, and the group's numbers as it leaves them.
+// `Group::restart`: the code, and the group's numbers as it leaves them.
 #[unsafe(no_mangle)]
 pub extern "C" fn linuktabay_restart(loom: usize, group: &mut [usize; 41]) -> u8
     ensures { Restarts (restart_of (group_from group.old) loom) group.old result group.new }
 {
-    let n = *group;
-    let restarted = group::restart(group_from(n), loom);
-    let after = restarted.group;
-    *group = with_group(n, after);
-    restarted.code
+    let restarted = group_from(*group).restart(loom);
+    *group = with_group(*group, restarted.group);
+    code_number(restarted.outcome)
+}
+
+// `Group::restart_all`: the code, and the group's numbers as it leaves them.
+#[unsafe(no_mangle)]
+pub extern "C" fn linuktabay_restart_all(group: &mut [usize; 41]) -> u8
+    ensures { Restarts (restart_all_of (group_from group.old)) group.old result group.new }
+{
+    let restarted = group_from(*group).restart_all();
+    *group = with_group(*group, restarted.group);
+    code_number(restarted.outcome)
 }
 
 // The numbers with what a step says written: the mark of its answer, whether it applied, the piece number and the step count.
@@ -201,14 +204,24 @@ pub fn with_said(n: [usize; 4], said: Said, steps: u8) -> [usize; 4]
     ensures { result ≡ with_said n said steps }
 {
     let mut out = n;
-    out[0] = wide(loom::said_number(said));
-    out[1] = wide(loom::said_applied(said));
-    out[2] = loom::said_piece(said) as usize;
-    out[3] = wide(steps);
+    out[0] = said.mark().into();
+    out[1] = said.applied().into();
+    out[2] = said.piece() as usize;
+    out[3] = steps.into();
     out
 }
 
-// `group::step`: the code, the group's numbers as it leaves them, and what it says.
+// The same of what a step tells, which is nothing where it was refused.
+fn with_told(n: [usize; 4], told: Result<Told, Code>) -> [usize; 4]
+    ensures { result ≡ with_told n told }
+{
+    match told {
+        Ok(told) => with_said(n, told.said, told.steps),
+        Err(_) => with_said(n, Said::Nothing, 0),
+    }
+}
+
+// `Group::step`: the code, the group's numbers as it leaves them, and what it says.
 #[unsafe(no_mangle)]
 pub extern "C" fn linuktabay_step(
     table: &[u8],
@@ -220,29 +233,21 @@ pub extern "C" fn linuktabay_step(
 ) -> u8
     ensures { Steps (step_of table.now states operations (group_from group.old) loom) group.old out.old result group.new out.new }
 {
-    let n = *group;
-    let old = *out;
-    let stepped = group::step(group_from(n), table, states, operations, loom);
-    let after = stepped.group;
-    let said = stepped.said;
-    *group = with_group(n, after);
-    *out = with_said(old, said, stepped.steps);
-    stepped.code
+    let table = Table::new(table, states, operations);
+    let stepped = group_from(*group).step(table, loom);
+    *group = with_group(*group, stepped.group);
+    *out = with_told(*out, stepped.told);
+    code_number(stepped.told)
 }
 
-// `group::restart_all`: the code, and the group's numbers as it leaves them.
-#[unsafe(no_mangle)]
-pub extern "C" fn linuktabay_restart_all(group: &mut [usize; 41]) -> u8
-    ensures { Restarts (restart_all_of (group_from group.old)) group.old result group.new }
+// The group of an opening; a refused one gives zeros and no looms.
+pub fn group_or_none(opened: Result<Group, Code>) -> Group
+    ensures { result ≡ group_or_none opened }
 {
-    let n = *group;
-    let restarted = group::restart_all(group_from(n));
-    let after = restarted.group;
-    *group = with_group(n, after);
-    restarted.code
+    opened.unwrap_or(group::no_group())
 }
 
-// `group::open`: the code, and the group's numbers; the area as the check leaves it.
+// `Group::open`: the code, and the group's numbers; the area as the check leaves it. A refused opening gives zeros and no looms.
 #[unsafe(no_mangle)]
 pub extern "C" fn linuktabay_open(
     table: &[u8],
@@ -259,11 +264,9 @@ pub extern "C" fn linuktabay_open(
     ensures { Opens (open_of table.now states operations (certificate_from start count seats.now) (pieces a b) (length area.old))
         (area_of table.now states operations (certificate_from start count seats.now) area.old) group.old result group.new area.new }
 {
-    let n = *seats;
-    let old = *group;
-    let certificate = certificate_from(start, count, n);
-    let opened = group::open(table, states, operations, certificate, a, b, area);
-    let after = opened.group;
-    *group = with_group(old, after);
-    opened.code
+    let table = Table::new(table, states, operations);
+    let certificate = certificate_from(start, count, *seats);
+    let opened = Group::open(table, certificate, Pair { a, b }, area);
+    *group = with_group(*group, group_or_none(opened));
+    code_number(opened)
 }

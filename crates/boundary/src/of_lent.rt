@@ -2,16 +2,19 @@
 ghost use Rattle.std.specs.Prelude.{◌≡◌};
 ghost use Rattle.boundary.specs.Records.{lead_from, memory_from, own_from, with_memory, with_own, LentSteps};
 
-use crate::of_group::{loom_from, with_said};
-use loom::{Lead, Loom, Shared};
+use crate::numbers::code_number;
+use crate::of_group::{in_byte, in_half, loom_from, with_said};
+use cell::Table;
+use loom::{Lead, Loom, Said, Shared};
+use sides::{Pair, Side};
 
 // What the loom goes by: start, leading side, its set, and whether the yielding side has one loom.
 fn lead_from(n: [usize; 12]) -> Lead
     ensures { result ≡ lead_from n }
 {
     Lead {
-        start: crate::of_group::in_byte(n[0]),
-        side: loom::side_from(n[1]),
+        start: in_byte(n[0]),
+        side: Side::from(n[1]),
         set: n[2] as u64,
         alone: n[3] == 1,
     }
@@ -22,9 +25,11 @@ fn memory_from(n: [usize; 12]) -> Shared
     ensures { result ≡ memory_from n }
 {
     Shared {
-        cell: crate::of_group::in_byte(n[5]),
-        a: crate::of_group::in_half(n[6]),
-        b: crate::of_group::in_half(n[7]),
+        cell: in_byte(n[5]),
+        registers: Pair {
+            a: in_half(n[6]),
+            b: in_half(n[7]),
+        },
     }
 }
 
@@ -40,9 +45,9 @@ fn with_memory(n: [usize; 12], shared: Shared) -> [usize; 12]
     ensures { result ≡ with_memory n shared }
 {
     let mut out = n;
-    out[5] = shared.cell as usize;
-    out[6] = shared.a as usize;
-    out[7] = shared.b as usize;
+    out[5] = shared.cell.into();
+    out[6] = shared.registers.a as usize;
+    out[7] = shared.registers.b as usize;
     out
 }
 
@@ -50,13 +55,11 @@ fn with_memory(n: [usize; 12], shared: Shared) -> [usize; 12]
 fn with_own(n: [usize; 12], loom: Loom) -> [usize; 12]
     ensures { result ≡ with_own n loom }
 {
-    let side = loom.side;
-    let place = loom.place;
     let mut out = n;
-    out[8] = loom::side_number(side) as usize;
-    out[9] = loom.operation as usize;
-    out[10] = loom::place_number(place) as usize;
-    out[11] = loom.steps as usize;
+    out[8] = u8::from(loom.side).into();
+    out[9] = loom.operation.into();
+    out[10] = u8::from(loom.place).into();
+    out[11] = loom.steps.into();
     out
 }
 
@@ -71,22 +74,20 @@ pub extern "C" fn linuktabay_step_lent(
 ) -> u8
     ensures { LentSteps table.now states operations own.old out.old result own.new out.new }
 {
+    let table = Table::new(table, states, operations);
     let n = *own;
-    let old = *out;
-    let number = crate::of_group::in_half(n[4]);
     let outcome = lent::stepped_through(
         memory_from(n),
         lead_from(n),
-        number,
+        in_half(n[4]),
         table,
-        states,
-        operations,
         own_from(n),
     );
-    let shared = outcome.shared;
-    let loom = outcome.loom;
-    let said = outcome.said;
-    *own = with_own(with_memory(n, shared), loom);
-    *out = with_said(old, said, loom.steps);
-    outcome.code
+    *own = with_own(with_memory(n, outcome.shared), outcome.loom);
+    *out = with_said(
+        *out,
+        outcome.said.unwrap_or(Said::Nothing),
+        outcome.loom.steps,
+    );
+    code_number(outcome.said)
 }

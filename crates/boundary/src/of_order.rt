@@ -1,10 +1,14 @@
 // The floor `order`.
 ghost use Rattle.std.specs.Prelude.{◌≡◌, length, [], ◌≤◌};
 ghost use Rattle.order.specs.Label.{by_side, trim_of};
-ghost use Rattle.boundary.specs.Orders.{with_seat, with_seats, with_piece, with_head, with_order, Reads};
+ghost use Rattle.boundary.specs.Orders.{with_seat, with_seats, with_piece, with_head, with_order, with_read, Reads};
+ghost use Rattle.order.specs.Order.{zero_order};
 
+use crate::numbers::{refusal_number, refusal_place};
+use codes::Refusal;
 use order::{Order, Piece};
 use recording::Seat;
+use sides::Pair;
 
 // The numbers with a seat's written from i on.
 fn with_seat(n: [usize; 30], i: usize, seat: Seat) -> [usize; 30]
@@ -17,7 +21,7 @@ fn with_seat(n: [usize; 30], i: usize, seat: Seat) -> [usize; 30]
     out
 }
 
-// The numbers with the seats' written.
+// The numbers with the seats' written: eight at fixed places of C's numbers, each written out.
 fn with_seats(n: [usize; 30], seats: [Seat; 8]) -> [usize; 30]
     ensures { result ≡ with_seats n seats }
 {
@@ -48,8 +52,6 @@ fn with_head(n: [usize; 30], order: Order) -> [usize; 30]
     ensures { result ≡ with_head n order }
 {
     let mut out = n;
-    out[0] = order.code as usize;
-    out[1] = order.place;
     out[2] = order.states;
     out[3] = order.operations;
     out[4] = order.entries;
@@ -63,12 +65,48 @@ fn with_head(n: [usize; 30], order: Order) -> [usize; 30]
 fn with_order(n: [usize; 30], order: Order) -> [usize; 30]
     ensures { result ≡ with_order n order }
 {
-    let seats = order.seats;
-    let a = order.a;
-    let b = order.b;
-    let head = with_head(n, order);
-    let seated = with_seats(head, seats);
-    with_piece(with_piece(seated, 23, 25, a), 24, 27, b)
+    let seated = with_seats(with_head(n, order), order.seats);
+    with_piece(
+        with_piece(seated, 23, 25, order.pieces.a),
+        24,
+        27,
+        order.pieces.b,
+    )
+}
+
+// An order of which all is zero.
+fn zero_order() -> Order
+    ensures { result ≡ zero_order }
+{
+    let seat = Seat {
+        side: 0,
+        operation: 0,
+    };
+    let piece = Piece {
+        number: 0,
+        at: 0,
+        length: 0,
+    };
+    Order {
+        states: 0,
+        operations: 0,
+        entries: 0,
+        start: 0,
+        count: 0,
+        seats: [seat; 8],
+        pieces: Pair { a: piece, b: piece },
+        schedule: 0,
+    }
+}
+
+// The numbers with a reading's written: its code and place, and the order; a refused reading gives zeros.
+fn with_read(n: [usize; 30], read: Result<Order, Refusal>) -> [usize; 30]
+    ensures { result ≡ with_read n read }
+{
+    let mut out = n;
+    out[0] = refusal_number(read).into();
+    out[1] = refusal_place(read);
+    with_order(out, read.unwrap_or(zero_order()))
 }
 
 // `order::read`: writes what it gives, and fills the rooms.
@@ -81,9 +119,7 @@ pub extern "C" fn linuktabay_read(
 )
     ensures { Reads file.now table.old schedule.old out.old table.new schedule.new out.new }
 {
-    let old = *out;
-    let order = order::read(file, table, schedule);
-    *out = with_order(old, order);
+    *out = with_read(*out, order::read(file, table, schedule));
 }
 
 // The length of the part that `order::label` gives.

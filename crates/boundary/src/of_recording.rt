@@ -3,9 +3,11 @@ ghost use Rattle.std.specs.Prelude.{◌≡◌, length};
 ghost use Rattle.recording.specs.Check.{check_of, area_of};
 ghost use Rattle.boundary.specs.Certificates.{seats_from, certificate_from, with_checked};
 
+use crate::numbers::{refusal_number, refusal_place};
+use cell::Table;
 use recording::{Certificate, Checked, Seat};
 
-// The eight seats of sixteen numbers, a side and an operation each.
+// The eight seats of sixteen numbers, a side and an operation each: C's numbers stand at fixed places, so each is written out.
 fn seats_from(n: [usize; 16]) -> [Seat; 8]
     ensures { result ≡ seats_from n }
 {
@@ -61,10 +63,10 @@ fn with_checked(n: [usize; 4], checked: Checked) -> [usize; 4]
     ensures { result ≡ with_checked n checked }
 {
     let mut out = n;
-    out[0] = checked.code as usize;
-    out[1] = checked.place;
-    out[2] = checked.a;
-    out[3] = checked.b;
+    out[0] = refusal_number(checked.outcome).into();
+    out[1] = refusal_place(checked.outcome);
+    out[2] = checked.sizes.a;
+    out[3] = checked.sizes.b;
     out
 }
 
@@ -83,14 +85,7 @@ pub extern "C" fn linuktabay_check(
     ensures { (out.new ≡ with_checked out.old (check_of table.now states operations (certificate_from start count seats.now) (length area.old)))
         × (area.new ≡ area_of table.now states operations (certificate_from start count seats.now) area.old) }
 {
-    let n = *seats;
-    let old = *out;
-    let checked = recording::check(
-        table,
-        states,
-        operations,
-        certificate_from(start, count, n),
-        area,
-    );
-    *out = with_checked(old, checked);
+    let table = Table::new(table, states, operations);
+    let certificate = certificate_from(start, count, *seats);
+    *out = with_checked(*out, recording::check(table, certificate, area));
 }

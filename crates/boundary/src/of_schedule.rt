@@ -2,25 +2,43 @@
 ghost use Rattle.std.specs.Prelude.{◌≡◌, length};
 ghost use Rattle.recording.specs.Check.{area_of};
 ghost use Rattle.group.specs.Open.{pieces};
-ghost use Rattle.schedule.specs.Run.{run_of, buffer_of};
+ghost use Rattle.schedule.specs.Run.{unrun, run_of, buffer_of};
 ghost use Rattle.boundary.specs.Certificates.{certificate_from};
 ghost use Rattle.boundary.specs.Runs.{with_ran, Runs};
 
+use crate::numbers::code_number;
 use crate::of_group::with_group;
 use crate::of_recording::certificate_from;
-use schedule::Ran;
+use cell::Table;
+use schedule::{Ran, Tally};
+use sides::Pair;
+
+// A run that was refused: zeros and no looms.
+fn unrun() -> Ran
+    ensures { result ≡ unrun }
+{
+    Ran {
+        group: group::no_group(),
+        tally: Tally {
+            entries: 0,
+            answers: Pair { a: 0, b: 0 },
+            applied: 0,
+            longest: 0,
+        },
+    }
+}
 
 // The numbers with a run's written: code, entries, answers for A and for B, operations applied, the longest run.
-fn with_ran(n: [usize; 6], ran: Ran) -> [usize; 6]
-    ensures { result ≡ with_ran n ran }
+fn with_ran(n: [usize; 6], code: u8, tally: Tally) -> [usize; 6]
+    ensures { result ≡ with_ran n code tally }
 {
     let mut out = n;
-    out[0] = ran.code as usize;
-    out[1] = ran.entries;
-    out[2] = ran.a;
-    out[3] = ran.b;
-    out[4] = ran.applied;
-    out[5] = ran.longest;
+    out[0] = code.into();
+    out[1] = tally.entries;
+    out[2] = tally.answers.a;
+    out[3] = tally.answers.b;
+    out[4] = tally.applied;
+    out[5] = tally.longest;
     out
 }
 
@@ -47,22 +65,10 @@ pub extern "C" fn linuktabay_run(
         (area_of table.now states operations (certificate_from start count seats.now) area.old)
         group.old out.old marks.new area.new group.new out.new }
 {
-    let n = *seats;
-    let old = *group;
-    let counts = *out;
-    let certificate = certificate_from(start, count, n);
-    let ran = schedule::run(
-        table,
-        states,
-        operations,
-        certificate,
-        a,
-        b,
-        schedule,
-        marks,
-        area,
-    );
-    let after = ran.group;
-    *group = with_group(old, after);
-    *out = with_ran(counts, ran);
+    let table = Table::new(table, states, operations);
+    let certificate = certificate_from(start, count, *seats);
+    let result = schedule::run(table, certificate, Pair { a, b }, schedule, marks, area);
+    let ran = result.unwrap_or(unrun());
+    *group = with_group(*group, ran.group);
+    *out = with_ran(*out, code_number(result), ran.tally);
 }

@@ -1,6 +1,8 @@
 -- The catalogue cell: document 01, "The catalogue cell"; source document 003, the type S_n.
 -- Assumes nothing.
-use Rattle.std.specs.Prelude.{ℕ, zero, suc, ◌+◌, ◌-◌, ◌*◌, ◌≡◌, cond, List, [], ◌∷◌, ◌++◌, ltb, length, drop}
+use Rattle.std.specs.Prelude.{ℕ, zero, suc, ◌+◌, ◌-◌, ◌*◌, ◌≡◌, cond, Result, Ok, Err, List, [], ◌∷◌, ◌++◌, ltb, length, drop}
+use Rattle.codes.specs.declared.Code.{Code}
+use Rattle.codes.specs.declared.Code.TheVariants.{NoRoom, NoSuchCell}
 use Rattle.cell.specs.Limits.{edition}
 use Rattle.cell.specs.Table.{outside_of}
 
@@ -46,19 +48,19 @@ unfoldable pub table_of : ℕ → List ℕ
 table_of n = each (after_zero n) (2 * n) ++ each (after_one n) (2 * n)
 
 -- "Catalogue: 41, then 40." 41: no such catalogue cell; n is from 2 to the most looms. 40: lent room too short.
-unfoldable pub catalogue_code : ℕ → ℕ → ℕ
-catalogue_code n room = cond (outside_of 2 edition.looms n) 41 (cond (ltb room (4 * n)) 40 0)
+unfoldable pub catalogue_code : ℕ → ℕ → Result (Unit {0}) Code
+catalogue_code n room = cond (outside_of 2 edition.looms n) (Err NoSuchCell) (cond (ltb room (4 * n)) (Err NoRoom) (Ok tt))
 
--- What is written under code 0; a refusal, which has another code, writes nothing.
-abbrev pub written_under : ℕ → List ℕ → List ℕ → List ℕ
-written_under zero written room = written
-written_under (suc code) written room = room
+-- What is written where nothing is refused; a refusal writes nothing.
+abbrev pub written_under : Result (Unit {0}) Code → List ℕ → List ℕ → List ℕ
+written_under (Ok done) written room = written
+written_under (Err code) written room = room
 
 -- "The catalogue writes 4n bytes in table order; later bytes stay." The room as the call leaves it.
 unfoldable pub catalogue_room : ℕ → List ℕ → List ℕ
 catalogue_room n room = written_under (catalogue_code n (length room)) (table_of n ++ drop (4 * n) room) room
 
--- Both of what `catalogue` answers: its code, and the room as it returns.
-pub record Catalogued (n : ℕ) (before : List ℕ) (code : ℕ) (after : List ℕ) : Type 0 where
-  pub answer : code ≡ catalogue_code n (length before)
+-- Both of what `catalogue` leaves: its answer, and the room as it returns.
+pub record Catalogued (n : ℕ) (before : List ℕ) (result : Result (Unit {0}) Code) (after : List ℕ) : Type 0 where
+  pub answer : result ≡ catalogue_code n (length before)
   pub room : after ≡ catalogue_room n before

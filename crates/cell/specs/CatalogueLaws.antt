@@ -1,16 +1,18 @@
 -- What the catalogue cell's operations do, for any n, and what stands in its table.
 -- Assumes nothing.
-use Rattle.std.specs.Prelude.{ℕ, zero, suc, ◌+◌, ◌-◌, ◌*◌, ◌≤◌, ◌<◌, ◌≡◌, refl, Bool, true, false, cond, List, [], ◌∷◌, ◌++◌, ltb, length, get_or, drop}
+use Rattle.std.specs.Prelude.{ℕ, zero, suc, ◌+◌, ◌-◌, ◌*◌, ◌≤◌, ◌<◌, ◌≡◌, refl, Bool, true, false, cond, Result, Ok, Err, List, [], ◌∷◌, ◌++◌, ltb, length, get_or, drop}
 use Rattle.std.proofs.Common.{sym, ap, ap₂, subst, ◌∙◌, ⊎_elim, add-zero, eq-or-lt_of_le, le_of_suc-le-suc, not-suc-le-zero, zero-mul, one-mul, add-suc, suc-add, suc-ne-zero, add-one, arith, length-append, get_or-append-add}
 use Rattle.std.proofs.Math.Nat.{add-sub_cancel_left, le_dest}
 use Rattle.std.proofs.Math.Decide.{dec_lt}
 use borrow.Author.Tests.{lt-ltb, le-ltb, ltb-false}
 use Rattle.std.proofs.Math.ListN.{get_or-append}
 use Rattle.std.proofs.Math.Seq.{get_or-append_seam}
+use Rattle.codes.specs.declared.Code.{Code}
+use Rattle.codes.specs.declared.Code.TheVariants.{NoRoom, NoSuchCell}
 use Rattle.cell.specs.Limits.{edition}
 use Rattle.cell.specs.Table.{entry_of, outside_of}
 use Rattle.cell.specs.TableLaws.{HasForm, not_outside}
-use Rattle.cell.specs.Catalogue.{won_a, won_b, won_of, after_zero, after_one, each, table_of, catalogue_code, written_under, catalogue_room, Catalogued}
+use Rattle.cell.specs.Catalogue.{won_a, won_b, won_of, after_zero, after_one, each, table_of, catalogue_code, catalogue_room, Catalogued}
 
 le_of_not_lt : (q n : ℕ) → ¬ (q < n) → n ≤ q
 le_of_not_lt q n h = omega arith
@@ -172,44 +174,41 @@ catalogue_has_form n some few =
 
 -- The code, one law for each way that it ends.
 module _ (n room : ℕ) where
-  pub no_cell_below : n < 2 → catalogue_code n room ≡ 41
+  pub no_cell_below : n < 2 → catalogue_code n room ≡ Err NoSuchCell
   unfolding catalogue_code
   no_cell_below h = simp (lt-ltb _ _ h)
 
   module _ (some : 2 ≤ n) where
-    pub no_cell_above : edition.looms < n → catalogue_code n room ≡ 41
+    pub no_cell_above : edition.looms < n → catalogue_code n room ≡ Err NoSuchCell
     unfolding catalogue_code
     no_cell_above h = simp (le-ltb _ _ some, lt-ltb _ _ h)
 
     module _ (few : n ≤ edition.looms) where
-      pub room_too_short : room < 4 * n → catalogue_code n room ≡ 40
+      pub room_too_short : room < 4 * n → catalogue_code n room ≡ Err NoRoom
       unfolding catalogue_code
       room_too_short h = simp (le-ltb _ _ some, le-ltb _ _ few, lt-ltb _ _ h)
 
-      pub room_enough : 4 * n ≤ room → catalogue_code n room ≡ 0
+      pub room_enough : 4 * n ≤ room → catalogue_code n room ≡ Ok tt
       unfolding catalogue_code
       room_enough h = simp (le-ltb _ _ some, le-ltb _ _ few, le-ltb _ _ h)
 
--- Code 0 says that there is such a cell, and room for it.
-pub code_says : (n room : ℕ) → catalogue_code n room ≡ 0 → (2 ≤ n) × (n ≤ edition.looms) × (4 * n ≤ room)
+-- No refusal says that there is such a cell, and room for it.
+pub code_says : (n room : ℕ) → catalogue_code n room ≡ Ok tt → (2 ≤ n) × (n ≤ edition.looms) × (4 * n ≤ room)
 unfolding catalogue_code
 code_says n room = go (outside_of 2 edition.looms n) (ltb room (4 * n)) refl refl
   where
-    go : (s t : Bool) → outside_of 2 edition.looms n ≡ s → ltb room (4 * n) ≡ t → cond {A = ℕ} s 41 (cond t 40 0) ≡ 0
+    go : (s t : Bool) → outside_of 2 edition.looms n ≡ s → ltb room (4 * n) ≡ t
+        → cond {A = Result (Unit {0}) Code} s (Err NoSuchCell) (cond t (Err NoRoom) (Ok tt)) ≡ Ok tt
         → (2 ≤ n) × (n ≤ edition.looms) × (4 * n ≤ room)
-    go true t hs ht code = omega arith
-    go false true hs ht code = omega arith
+    go true t hs ht code = cc
+    go false true hs ht code = cc
     go false false hs ht code = let w = not_outside 2 edition.looms n hs in (w.0, w.1, ltb-false _ _ ht)
 
--- What a call leaves: the room written where the code is 0, else as it was.
-pub written_catalogued : (n : ℕ) (room : List ℕ) → catalogue_code n (length room) ≡ 0 → Catalogued n room 0 (table_of n ++ drop (4 * n) room)
+-- What a call leaves: the room written where nothing is refused, else as it was.
+pub written_catalogued : (n : ℕ) (room : List ℕ) → catalogue_code n (length room) ≡ Ok tt → Catalogued n room (Ok tt) (table_of n ++ drop (4 * n) room)
 unfolding catalogue_room
 written_catalogued n room e = record { answer = sym e; room = rw e }
 
-pub refused_catalogued : (n : ℕ) (room : List ℕ) → (catalogue_code n (length room) ≡ 0 → ⊥) → Catalogued n room (catalogue_code n (length room)) room
+pub refused_catalogued : (n : ℕ) (room : List ℕ) (code : Code) → catalogue_code n (length room) ≡ Err code → Catalogued n room (Err code) room
 unfolding catalogue_room
-refused_catalogued n room h = record { answer = refl; room = go (catalogue_code n (length room)) h }
-  where
-    go : (code : ℕ) → (code ≡ 0 → ⊥) → room ≡ written_under code (table_of n ++ drop (4 * n) room) room
-    go zero none = absurd (none refl)
-    go (suc code) none = refl
+refused_catalogued n room code e = record { answer = sym e; room = rw e }

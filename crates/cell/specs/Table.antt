@@ -1,9 +1,9 @@
 -- A cell's table: document 01, "Cell and certificate" and "Codes and their order".
 -- Assumes nothing.
-use Rattle.std.specs.Prelude.{ℕ, suc, ◌+◌, ◌*◌, Bool, not, cond, ◌&&◌, ◌||◌, List, [], ◌∷◌, leb, ltb, eqb, length, get_or}
-use Rattle.cell.specs.declared.Formed.{Formed}
-use Rattle.cell.specs.declared.Moved.{Moved}
-use Rattle.cell.specs.declared.Moved.TheVariants.{To, Refused}
+use Rattle.std.specs.Prelude.{ℕ, ◌+◌, ◌*◌, Bool, not, cond, ◌&&◌, ◌||◌, Option, Some, None, Ok, Err, List, leb, ltb, eqb, length, get_or, nat_le}
+use Rattle.std.specs.List as list
+use Rattle.codes.specs.Codes.{refused_at, Verdict}
+use Rattle.codes.specs.declared.Code.TheVariants.{States, Operations, TableLength, Entry}
 use Rattle.cell.specs.Limits.{edition}
 
 -- "It is stored operation by operation: the entry for operation o in state q stands at o × states + q."
@@ -24,27 +24,26 @@ is_fitted table states o q =
 
 -- "A cell table gives, for each operation and state, the next state." In the code every use of a table goes through this lookup. The
 -- definitions of other files take the entry itself, once they have tested the table.
-unfoldable pub next_of : List ℕ → ℕ → ℕ → ℕ → Moved
-next_of table states o q = cond (is_fitted table states o q) (To (entry_of table states o q)) Refused
+unfoldable pub next_of : List ℕ → ℕ → ℕ → ℕ → Option ℕ
+next_of table states o q = cond (is_fitted table states o q) (Some (entry_of table states o q)) None
 
--- The place of the first entry that isn't below states, or the table's length.
-unfoldable pub first_outside : ℕ → List ℕ → ℕ
-first_outside states [] = 0
-first_outside states (e ∷ es) = cond (leb states e) 0 (suc (first_outside states es))
+-- The place of the first entry that isn't below states.
+abbrev pub first_outside : ℕ → List ℕ → Option ℕ
+first_outside states table = list.position (λ e. nat_le states e) table
 
 -- n is not from low to high.
 abbrev pub outside_of : ℕ → ℕ → ℕ → Bool
 outside_of low high n = ltb n low || ltb high n
 
--- A code and its place; code 0 is no refusal.
-abbrev pub formed : ℕ → ℕ → Formed
-formed code place = record { code = code; place = place }
+-- "5: an entry not below states", placed at the lowest such entry.
+abbrev pub entry_refused : Option ℕ → Verdict
+entry_refused None = Ok tt
+entry_refused (Some place) = Err (refused_at Entry place)
 
--- "2, 3: states, operations not within limits. 4: table length isn't states × operations. 5: an entry not below states", placed at the
--- lowest such entry.
-unfoldable pub form_of : List ℕ → ℕ → ℕ → Formed
+-- "2, 3: states, operations not within limits. 4: table length isn't states × operations." Then 5.
+unfoldable pub form_of : List ℕ → ℕ → ℕ → Verdict
 form_of table states operations =
-    cond (outside_of 1 edition.states states) (formed 2 0)
-    (cond (outside_of 1 edition.operations operations) (formed 3 0)
-    (cond (not (eqb (length table) (states * operations))) (formed 4 0)
-    (cond (ltb (first_outside states table) (length table)) (formed 5 (first_outside states table)) (formed 0 0))))
+    cond (outside_of 1 edition.states states) (Err (refused_at States 0))
+    (cond (outside_of 1 edition.operations operations) (Err (refused_at Operations 0))
+    (cond (not (eqb (length table) (states * operations))) (Err (refused_at TableLength 0))
+    (entry_refused (first_outside states table))))

@@ -3,7 +3,7 @@
 use Rattle.std.specs.Prelude.{ℕ, ◌≡◌, refl, List, [], ◌∷◌, ◌++◌}
 use Rattle.std.proofs.Common.{ap}
 use Rattle.recording.specs.declared.Seat.{Seat}
-use Rattle.loom.specs.declared.Side.{Side}
+use Rattle.sides.specs.declared.Side.{Side}
 use Rattle.agreement.specs.Machine.{Act as MachineAct}
 use Rattle.agreement.specs.Figure.{System, Setting, moved, ran}
 use Rattle.demands.specs.Acts.{Act, History, acted_on, history_after}

@@ -1,15 +1,17 @@
 -- Group and table fit through every act, and how a step of a group that fits ends.
 -- Assumes nothing.
-use Rattle.std.specs.Prelude.{ℕ, zero, suc, ◌≤◌, ◌<◌, ◌≡◌, refl, Bool, true, false, length}
+use Rattle.std.specs.Prelude.{ℕ, zero, suc, ◌≤◌, ◌<◌, ◌≡◌, refl, Bool, true, false, length, Ok, Err}
 use Rattle.std.proofs.Common.{arith, ◌∙◌}
 use Rattle.std.proofs.Math.Decide.{dec_lt}
 use mathlib.Core.List.{List, [], ◌∷◌}
 use borrow.Author.Tests.{le-ltb, le-leb, lt-leb, eq-eqb}
+use Rattle.codes.specs.declared.Code.TheVariants.{NoLoom, HasAnswered, Unfit}
 use Rattle.cell.specs.Limits.{edition}
 use Rattle.cell.specs.Table.{entry_of}
 use Rattle.cell.specs.TableLaws.{good_moves}
 use Rattle.recording.specs.declared.Seat.{Seat}
-use Rattle.loom.specs.declared.Side.{Side}
+use Rattle.sides.specs.declared.Side.{Side}
+use Rattle.sides.specs.Sides.{of_side}
 use Rattle.loom.specs.declared.Place.{Place}
 use Rattle.loom.specs.declared.Place.TheVariants.{Begin, Posted, Looking, Ready, Applied, Bound, Answered}
 use Rattle.loom.specs.declared.Shared.{Shared}
@@ -18,7 +20,7 @@ use Rattle.loom.specs.Looms.{counted, moved_to}
 use Rattle.loom.specs.SidesLaws.{cell_kept}
 use Rattle.group.specs.declared.Group.{Group}
 use Rattle.group.specs.declared.Stepped.{Stepped}
-use Rattle.group.specs.Group.{loom_at, number_of, group_rules, with_loom, with_shared, no_loom, too_many, restarted_at, restarted_below}
+use Rattle.group.specs.Group.{loom_at, group_rules, with_loom, with_shared, no_loom, too_many, restarted_at, restarted_below}
 use Rattle.group.specs.Step.{is_unfit, step_on_of, settled, step_of, refused, restarted, restart_of, restart_all_of}
 use Rattle.demands.specs.Acts.{Act, loom_steps, loom_restarts, all_restart, History, acted_on, history_after}
 use Rattle.demands.specs.Kept.{Kept}
@@ -38,7 +40,7 @@ seated_still looms g h kept seated =
 -- The turn that loom k of a group would take: by the group's rules, with its side's number and its own operation.
 abbrev pub turn_in : List ℕ → ℕ → Group → ℕ → Turn
 turn_in table states g k =
-    turn_of (group_rules g) (loom_at g k).side (number_of g.numbers (loom_at g k).side) (entry_of table states (loom_at g k).operation) g.shared (loom_at g k).place
+    turn_of (group_rules g) (loom_at g k).side (of_side g.numbers (loom_at g k).side) (entry_of table states (loom_at g k).operation) g.shared (loom_at g k).place
 
 -- The group after turn t of its loom k.
 abbrev pub moved_on : Group → ℕ → Turn → Group
@@ -46,7 +48,7 @@ moved_on g k t = with_loom (with_shared g t.shared) k (moved_to (loom_at g k) t.
 
 -- What that step comes to.
 abbrev pub turn_taken : Group → ℕ → Turn → Stepped
-turn_taken g k t = record { code = 0; said = t.said; steps = counted (loom_at g k).steps; group = moved_on g k t }
+turn_taken g k t = record { group = moved_on g k t; told = Ok (record { said = t.said; steps = counted (loom_at g k).steps }) }
 
 -- The cell moves within the table's states.
 pub turn_within : (R : Rules) (s : Side) (v : ℕ) (op : ℕ → ℕ) (m : Shared) (p : Place) (states : ℕ) → m.cell < states → op m.cell < states →
@@ -101,12 +103,12 @@ module _ (table : List ℕ) (states operations : ℕ) (looms : List Seat) (good 
         )
 
     -- A step ends in three ways. There is no such loom: 30.
-    pub step_of_none : (k : ℕ) → length looms ≤ k → step_of table states operations g k ≡ refused 30 g
+    pub step_of_none : (k : ℕ) → length looms ≤ k → step_of table states operations g k ≡ refused NoLoom g
     unfolding step_of
     step_of_none k past = simp (no_such_loom k past)
 
     -- The loom has answered: 31.
-    pub step_of_answered : (k : ℕ) → k < length looms → has_answered (loom_at g k).place ≡ true → step_of table states operations g k ≡ refused 31 g
+    pub step_of_answered : (k : ℕ) → k < length looms → has_answered (loom_at g k).place ≡ true → step_of table states operations g k ≡ refused HasAnswered g
     unfolding step_of settled step_on_of
     step_of_answered k here done = simp (such_loom k here, not_unfit k here, done)
 
@@ -117,17 +119,17 @@ module _ (table : List ℕ) (states operations : ℕ) (looms : List Seat) (good 
     step_of_unanswered k here going = simp (such_loom k here, not_unfit k here, going)
 
     -- A restart of no loom of the group: 30.
-    pub restart_of_none : (k : ℕ) → length looms ≤ k → restart_of g k ≡ restarted 30 g
+    pub restart_of_none : (k : ℕ) → length looms ≤ k → restart_of g k ≡ restarted (Err NoLoom) g
     unfolding restart_of
     restart_of_none k past = simp (no_such_loom k past)
 
     -- A restart of a loom of the group.
-    pub restart_of_one : (k : ℕ) → k < length looms → restart_of g k ≡ restarted 0 (restarted_at g k)
+    pub restart_of_one : (k : ℕ) → k < length looms → restart_of g k ≡ restarted (Ok tt) (restarted_at g k)
     unfolding restart_of
     restart_of_one k here = simp (such_loom k here)
 
     -- A restart of all is never refused.
-    pub restart_of_all : restart_all_of g ≡ restarted 0 (restarted_below g g.count)
+    pub restart_of_all : restart_all_of g ≡ restarted (Ok tt) (restarted_below g g.count)
     unfolding restart_all_of
     restart_of_all = simp not_too_many
 
@@ -157,17 +159,17 @@ module _ (table : List ℕ) (states operations : ℕ) (looms : List Seat) (good 
     cell_by_restart_of_all : (restart_all_of g).group.shared.cell < states
     cell_by_restart_of_all = rw (restart_of_all, shared_restarted_below g g.count) fits.cell
 
-    -- 32 is never given: a step's code is 0, 30 or 31.
-    pub never_unfit : (k : ℕ) → (step_of table states operations g k).code ≡ 32 → ⊥
+    -- 32 is never given: a step is taken, or refused with 30 or 31.
+    pub never_unfit : (k : ℕ) → (step_of table states operations g k).told ≡ Err Unfit → ⊥
     never_unfit k = by_loom (dec_lt k (length looms))
       where
-        by_place : k < length looms → (b : Bool) → has_answered (loom_at g k).place ≡ b → (step_of table states operations g k).code ≡ 32 → ⊥
-        by_place here true done code = omega (arith, rw (step_of_answered k here done) at code)
-        by_place here false going code = omega (arith, rw (step_of_unanswered k here going) at code)
+        by_place : k < length looms → (b : Bool) → has_answered (loom_at g k).place ≡ b → (step_of table states operations g k).told ≡ Err Unfit → ⊥
+        by_place here true done unfit = let e = rw (step_of_answered k here done) at unfit in cc
+        by_place here false going unfit = let e = rw (step_of_unanswered k here going) at unfit in cc
 
-        by_loom : Dec (k < length looms) → (step_of table states operations g k).code ≡ 32 → ⊥
+        by_loom : Dec (k < length looms) → (step_of table states operations g k).told ≡ Err Unfit → ⊥
         by_loom (yes here) = by_place here (has_answered (loom_at g k).place) refl
-        by_loom (no past) = λ code. omega (arith, rw (step_of_none k (omega arith)) at code)
+        by_loom (no past) = λ unfit. let e = rw (step_of_none k (omega arith)) at unfit in cc
 
   -- Group and table fit after one act.
   pub fits_by_act : (a : Act) (h : History) → Fits states looms h.group → Fits states looms (acted_on table states operations a h).group

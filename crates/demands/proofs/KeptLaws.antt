@@ -1,17 +1,20 @@
 -- No act changes more than the shared memory, and the looms' places and counts.
 -- Assumes nothing.
-use Rattle.std.specs.Prelude.{ℕ, zero, suc, refl, Bool, true, false, cond, eqb, get_or, set}
+use Rattle.std.specs.Prelude.{ℕ, zero, suc, refl, Bool, true, false, cond, get_or, set, Result, Ok, Err}
 use Rattle.std.proofs.Common.{◌∙◌, length-set}
 use mathlib.Core.List.{List, [], ◌∷◌}
+use Rattle.codes.specs.declared.Code.{Code}
+use Rattle.codes.specs.declared.Code.TheVariants.{NoLoom, HasAnswered, Unfit}
 use Rattle.cell.specs.Table.{entry_of}
 use Rattle.loom.specs.declared.Loom.{Loom}
+use Rattle.loom.specs.declared.Said.{Said}
 use Rattle.loom.specs.declared.Shared.{Shared}
 use Rattle.loom.specs.Turn.{Rules, has_answered}
 use Rattle.loom.specs.Looms.{turned_of}
 use Rattle.group.specs.declared.Group.{Group}
 use Rattle.group.specs.declared.Outcome.{Outcome}
 use Rattle.group.specs.Group.{empty_loom, loom_at, with_loom, with_shared, no_loom, too_many, restarted_at, restarted_below}
-use Rattle.group.specs.Step.{is_unfit, unmoved, taken, step_on_of, settled, own_step, step_of, refused, restarted, restart_of, restart_all_of}
+use Rattle.group.specs.Step.{is_unfit, unmoved, taken, step_on_of, settled_by, settled, own_step, step_of, refused, restarted, restart_of, restart_all_of}
 use Rattle.demands.specs.Acts.{Act, loom_steps, loom_restarts, all_restart, History, acted_on, history_after}
 use Rattle.demands.specs.Kept.{SameLoom, Kept}
 
@@ -67,25 +70,25 @@ unfolding step_on_of
 same_after_step R v table states operations m l = by_tests (is_unfit table states operations l.operation m.cell) (has_answered l.place)
   where
     by_tests : (s t : Bool) →
-        SameLoom (cond s (unmoved 32 m l) (cond t (unmoved 31 m l) (taken (turned_of R v (entry_of table states l.operation) m l)))).loom l
+        SameLoom (cond s (unmoved Unfit m l) (cond t (unmoved HasAnswered m l) (taken (turned_of R v (entry_of table states l.operation) m l)))).loom l
     by_tests true t = same_loom l
     by_tests false true = same_loom l
     by_tests false false = record { side = refl; operation = refl }
 
 kept_settled : (g : Group) (k : ℕ) (r : Outcome) → SameLoom r.loom (loom_at g k) → Kept g (settled g k r).group
 unfolding settled
-kept_settled g k r same = by_test (eqb r.code 0)
+kept_settled g k r same = by_said r.said
   where
-    by_test : (b : Bool) → Kept g (cond b (record { code = 0; said = r.said; steps = r.loom.steps; group = with_loom (with_shared g r.shared) k r.loom }) (refused r.code g)).group
-    by_test true = kept_further _ _ _ (kept_with_shared g r.shared) (kept_with_loom (with_shared g r.shared) k r.loom same)
-    by_test false = kept_itself g
+    by_said : (s : Result Said Code) → Kept g (settled_by g k r s).group
+    by_said (Ok said) = kept_further _ _ _ (kept_with_shared g r.shared) (kept_with_loom (with_shared g r.shared) k r.loom same)
+    by_said (Err code) = kept_itself g
 
 -- A step keeps it, taken or refused.
 pub kept_by_step : (table : List ℕ) (states operations : ℕ) (g : Group) (k : ℕ) → Kept g (step_of table states operations g k).group
 unfolding step_of
 kept_by_step table states operations g k = by_test (no_loom g k)
   where
-    by_test : (b : Bool) → Kept g (cond b (refused 30 g) (settled g k (own_step table states operations g k))).group
+    by_test : (b : Bool) → Kept g (cond b (refused NoLoom g) (settled g k (own_step table states operations g k))).group
     by_test true = kept_itself g
     by_test false = kept_settled g k _ (same_after_step _ _ table states operations g.shared (loom_at g k))
 
@@ -103,7 +106,7 @@ pub kept_by_restart : (g : Group) (k : ℕ) → Kept g (restart_of g k).group
 unfolding restart_of
 kept_by_restart g k = by_test (no_loom g k)
   where
-    by_test : (b : Bool) → Kept g (cond b (restarted 30 g) (restarted 0 (restarted_at g k))).group
+    by_test : (b : Bool) → Kept g (cond b (restarted (Err NoLoom) g) (restarted (Ok tt) (restarted_at g k))).group
     by_test true = kept_itself g
     by_test false = kept_restarted g k
 
@@ -112,7 +115,7 @@ pub kept_by_restart_of_all : (g : Group) → Kept g (restart_all_of g).group
 unfolding restart_all_of
 kept_by_restart_of_all g = by_test (too_many g)
   where
-    by_test : (b : Bool) → Kept g (cond b (restarted 30 g) (restarted 0 (restarted_below g g.count))).group
+    by_test : (b : Bool) → Kept g (cond b (restarted (Err NoLoom) g) (restarted (Ok tt) (restarted_below g g.count))).group
     by_test true = kept_itself g
     by_test false = kept_restarted_below g g.count
 

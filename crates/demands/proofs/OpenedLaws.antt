@@ -1,10 +1,11 @@
--- What an opening with code 0 has made: a newly opened group.
+-- What an opening has made: a newly opened group.
 -- Assumes nothing.
-use Rattle.std.specs.Prelude.{ℕ, ◌≤◌, ◌<◌, ◌≡◌, refl, Bool, true, false, not, cond, ◌||◌, List, eqb, length, get_or}
-use Rattle.std.proofs.Common.{arith, ap, sym, ◌∙◌, length-take, get_or-take, eqb-true}
+use Rattle.std.specs.Prelude.{ℕ, ◌≤◌, ◌<◌, ◌≡◌, refl, Bool, true, false, List, eqb, length, get_or, Ok, Err}
+use Rattle.std.proofs.Common.{arith, ap, sym, ◌∙◌, length-take, get_or-take}
 use Rattle.std.proofs.Math.Decide.{dec_lt}
 use Rattle.std.proofs.Math.ListN.{get_or-eq_default}
 use Rattle.std.proofs.lemmas.Bool.{eqb-false}
+use Rattle.codes.specs.Codes.{Verdict}
 use Rattle.cell.specs.Table.{entry_of}
 use Rattle.recording.specs.declared.Seat.{Seat}
 use Rattle.recording.specs.declared.Certificate.{Certificate}
@@ -14,45 +15,46 @@ use Rattle.recording.specs.Check.{looms_of, fault_of, judged_of, check_of}
 use Rattle.recording.specs.AdmittedLaws.{Admitted, admitted, all_fitted, counted}
 use Rattle.recording.proofs.Accepted.{check_says}
 use Rattle.recording.proofs.AcceptedLaws.{sets_given, past_faults}
-use Rattle.loom.specs.declared.Side.{Side}
-use Rattle.loom.specs.declared.Side.TheVariants.{A, B}
+use Rattle.sides.specs.declared.Side.{Side}
+use Rattle.sides.specs.declared.Side.TheVariants.{A, B}
+use Rattle.sides.specs.Sides.{of_side}
+use Rattle.sides.specs.declared.Pair.{Pair}
 use Rattle.loom.specs.declared.Loom.{Loom}
 use Rattle.agreement.specs.Machine.{NotZero}
-use Rattle.group.specs.declared.Numbers.{Numbers}
-use Rattle.group.specs.Group.{empty_loom, number_of}
-use Rattle.group.specs.Open.{loom_of, slots_of, fresh_group, unopened, opened, sets_from, opened_by, open_of}
+use Rattle.group.specs.declared.Group.{Group}
+use Rattle.group.specs.Group.{empty_loom}
+use Rattle.group.specs.Open.{loom_of, slots_of, fresh_group, opened_with, opened_by, open_of}
 use Rattle.group.proofs.OpenLaws.{slots_length, slot_of_seat}
 use Rattle.demands.specs.Fits.{Seated, WellFormed}
 use Rattle.demands.specs.NewlyOpened.{AreSets, NewlyOpened}
 
--- What code 0 says of an opening: the check accepted, neither number is 0, and the group is as it opens.
-record Opens (j : Judged) (c : Certificate) (numbers : Numbers) : Type 0 where
-  accepting : j.code ≡ 0
+-- What an opening says: the check accepted, neither number is 0, and the group is as it opens.
+record Opens (j : Judged) (c : Certificate) (numbers : Pair ℕ) (g : Group) : Type 0 where
+  accepting : j.outcome ≡ Ok tt
   some_a : NotZero numbers.a
   some_b : NotZero numbers.b
-  fresh : (opened_by j c numbers).group ≡ fresh_group c (sets_from j) numbers
+  fresh : g ≡ fresh_group c j.sets numbers
 
-opens : (j : Judged) (c : Certificate) (numbers : Numbers) → (opened_by j c numbers).code ≡ 0 → Opens j c numbers
+opens_so : (j : Judged) (c : Certificate) (numbers : Pair ℕ) (g : Group) → opened_by j c numbers ≡ Ok g → Opens j c numbers g
 unfolding opened_by
-opens j c numbers = by_tests (eqb j.code 0) (eqb numbers.a 0) (eqb numbers.b 0) refl refl refl
+opens_so j c numbers g = by_tests j.outcome (eqb numbers.a 0) (eqb numbers.b 0) refl refl refl
   where
-    by_tests : (s t u : Bool) → eqb j.code 0 ≡ s → eqb numbers.a 0 ≡ t → eqb numbers.b 0 ≡ u →
-        (cond (not s) (unopened j.code) (cond (t || u) (unopened 10) (opened (fresh_group c (sets_from j) numbers)))).code ≡ 0 →
-        Opens j c numbers
-    by_tests false t u es et eu code = absurd (eqb-false j.code 0 es code)
-    by_tests true true u es et eu code = absurd (omega arith)
-    by_tests true false true es et eu code = absurd (omega arith)
-    by_tests true false false es et eu code =
+    by_tests : (s : Verdict) (t u : Bool) → j.outcome ≡ s → eqb numbers.a 0 ≡ t → eqb numbers.b 0 ≡ u → opened_with s j.sets c numbers ≡ Ok g →
+        Opens j c numbers g
+    by_tests (Err refusal) t u es et eu opens = cc
+    by_tests (Ok done) true u es et eu opens = let e = rw et at opens in cc
+    by_tests (Ok done) false true es et eu opens = let e = rw (et, eu) at opens in cc
+    by_tests (Ok done) false false es et eu opens =
         record {
-          accepting = eqb-true j.code 0 es;
+          accepting = es;
           some_a = eqb-false numbers.a 0 et;
           some_b = eqb-false numbers.b 0 eu;
-          fresh = rw (es, et, eu) refl;
+          fresh = let e = rw (et, eu) at opens in cc;
         }
 
-module _ (table : List ℕ) (states operations : ℕ) (c : Certificate) (room : ℕ) (accepting : (judged_of table states operations c room).code ≡ 0) where
+module _ (table : List ℕ) (states operations : ℕ) (c : Certificate) (room : ℕ) (accepting : (judged_of table states operations c room).outcome ≡ Ok tt) where
   -- A check that accepts is past all refusals.
-  past : (fault_of table states operations c room).code ≡ 0
+  past : fault_of table states operations c room ≡ Ok tt
   past = past_faults table states operations c room accepting
 
   ok : Admitted table states operations c room
@@ -81,7 +83,7 @@ module _ (table : List ℕ) (states operations : ℕ) (c : Certificate) (room : 
   unfolding check_of
   is_recording = (check_says table states operations c room past).accepted.0 accepting
 
-  are_sets : AreSets (entry_of table states) (looms_of c) c.start (sets_from (judged_of table states operations c room))
+  are_sets : AreSets (entry_of table states) (looms_of c) c.start (judged_of table states operations c room).sets
   are_sets A q = rw (sets_given table states operations c room past).0 ((check_says table states operations c room past).members 0 q)
   are_sets B q = rw (sets_given table states operations c room past).1 ((check_says table states operations c room past).members 1 q)
 
@@ -92,7 +94,7 @@ module _ (table : List ℕ) (states operations : ℕ) (c : Certificate) (room : 
       let there : k < length c.seats = omega (arith, length-take c.count c.seats) in
       slot_of_seat c.count c.seats k below there ∙ ap loom_of (sym (get_or-take c.count c.seats k empty_seat below))
 
-  seated_fresh : (numbers : Numbers) → Seated (looms_of c) (fresh_group c (sets_from (judged_of table states operations c room)) numbers)
+  seated_fresh : (numbers : Pair ℕ) → Seated (looms_of c) (fresh_group c (judged_of table states operations c room).sets numbers)
   seated_fresh numbers =
       record {
         count = sym as_many_looms;
@@ -101,11 +103,10 @@ module _ (table : List ℕ) (states operations : ℕ) (c : Certificate) (room : 
         operation = λ k here. ap (λ (l : Loom). l.operation) (slot_is_seat k here);
       }
 
--- An opening with code 0 has made a newly opened group.
-pub newly_opened : (table : List ℕ) (states operations : ℕ) (c : Certificate) (numbers : Numbers) (room : ℕ) →
-    (open_of table states operations c numbers room).code ≡ 0 →
-    NewlyOpened table states operations c numbers (open_of table states operations c numbers room).group
-newly_opened table states operations c numbers room code =
+-- An opening has made a newly opened group.
+pub newly_opened : (table : List ℕ) (states operations : ℕ) (c : Certificate) (numbers : Pair ℕ) (room : ℕ) →
+    (g : Group) → open_of table states operations c numbers room ≡ Ok g → NewlyOpened table states operations c numbers g
+newly_opened table states operations c numbers room g opens =
     rw made.fresh
     record {
       good = well_formed table states operations c room made.accepting;
@@ -121,9 +122,9 @@ newly_opened table states operations c numbers room code =
       uncounted = λ k here. ap (λ (l : Loom). l.steps) (slot_is_seat table states operations c room made.accepting k here);
     }
   where
-    made : Opens (judged_of table states operations c room) c numbers
-    made = opens (judged_of table states operations c room) c numbers code
+    made : Opens (judged_of table states operations c room) c numbers g
+    made = opens_so (judged_of table states operations c room) c numbers g opens
 
-    both : (s : Side) → NotZero (number_of numbers s)
+    both : (s : Side) → NotZero (of_side numbers s)
     both A = made.some_a
     both B = made.some_b

@@ -9,20 +9,21 @@ use Rattle.std.proofs.lemmas.Bool.{eqb-false}
 use Rattle.cell.specs.Table.{entry_of}
 use Rattle.recording.specs.declared.Seat.{Seat}
 use Rattle.recording.specs.Recording.{side_at, operation_at, one, side_count}
-use Rattle.loom.specs.declared.Side.{Side}
-use Rattle.loom.specs.declared.Side.TheVariants.{A, B}
+use Rattle.sides.specs.declared.Side.{Side}
+use Rattle.sides.specs.declared.Side.TheVariants.{A, B}
 use Rattle.loom.specs.declared.Place.{Place}
 use Rattle.loom.specs.declared.Place.TheVariants.{Begin, Posted, Looking, Ready, Applied, Bound, Answered}
 use Rattle.loom.specs.declared.Loom.{Loom}
 use Rattle.loom.specs.declared.Shared.{Shared}
-use Rattle.loom.specs.Sides.{side_number, side_from, same_side, register}
+use Rattle.sides.specs.Sides.{side_number, side_from, same_side, of_side}
+use Rattle.loom.specs.Sides.{register}
 use Rattle.loom.specs.Turn.{Rules, Turn, turn_of, has_answered}
 use Rattle.loom.specs.Looms.{moved_to, restarted_of}
 use Rattle.loom.specs.SidesLaws.{register_written}
 use Rattle.agreement.specs.Machine.{Event, step, State, side_of, changed_at, with_post, with_said, turned, stepped_from, stepped, acted, after}
 use Rattle.agreement.proofs.MachineLaws.{changed_other, stepped_no_loom, stepped_loom, stepped_answered}
 use Rattle.group.specs.declared.Group.{Group}
-use Rattle.group.specs.Group.{empty_loom, loom_at, number_of, count_of, yielding_of, lead_of, group_rules, with_loom, with_shared}
+use Rattle.group.specs.Group.{empty_loom, loom_at, count_of, yielding_of, lead_of, group_rules, with_loom, with_shared}
 use Rattle.group.specs.ActsLaws.{restarted_each}
 use Rattle.group.specs.Step.{step_of}
 use Rattle.demands.specs.Acts.{Act, loom_steps, loom_restarts, all_restart, History, noted, stepped_to, acted_on, history_after}
@@ -101,7 +102,7 @@ module _ (table : List ℕ) (states operations : ℕ) (looms : List Seat) (good 
   pub record Along (h : History) (S : State) : Type 0 where
     pub fits : Fits states looms h.group
     pub rules : group_rules h.group ≡ R
-    pub numbers : number_of h.group.numbers ≡ num
+    pub numbers : of_side h.group.numbers ≡ num
     pub pictured : Pictured looms h S
 
   module _ (h : History) (S : State) (along : Along h S) (k : ℕ) (here : k < length looms) where
@@ -231,7 +232,7 @@ module _ (table : List ℕ) (states operations : ℕ) (looms : List Seat) (good 
         record {
           fits = fits;
           rules = rules_kept looms h.group _ good.sides kept along.fits.seated fits.seated ∙ along.rules;
-          numbers = ap number_of kept.numbers ∙ along.numbers;
+          numbers = ap of_side kept.numbers ∙ along.numbers;
           pictured = pictured_by_act a;
         }
 

@@ -6,11 +6,11 @@ use Rattle.std.proofs.lemmas.Bool.{eqb-false}
 use Rattle.sets.specs.Sets.{has_of}
 use Rattle.recording.specs.declared.Seat.{Seat}
 use Rattle.recording.specs.Recording.{InSet, Recording}
-use Rattle.loom.specs.declared.Side.TheVariants.{A, B}
-use Rattle.loom.specs.Sides.{side_number}
-use Rattle.loom.specs.SidesLaws.{other_other}
+use Rattle.sides.specs.declared.Side.TheVariants.{A, B}
+use Rattle.sides.specs.Sides.{side_number}
+use Rattle.sides.specs.SidesLaws.{other_other}
+use Rattle.sides.specs.declared.Pair.{Pair}
 use Rattle.agreement.specs.Fitted.{Renders}
-use Rattle.group.specs.declared.Sets.{Sets}
 use Rattle.group.specs.Group.{yielding_of, leading_of}
 use Rattle.demands.specs.Pictured.{rules_by}
 use Rattle.demands.specs.NewlyOpened.{AreSets}
@@ -19,7 +19,7 @@ use Rattle.demands.specs.NewlyOpened.{AreSets}
 test_of_equal : (m n : ℕ) → (eqb m n ≡ true) ↔ (m ≡ n)
 test_of_equal m n = (eqb-true m n, eq-eqb m n)
 
-module _ (next : ℕ → ℕ → ℕ) (looms : List Seat) (start : ℕ) (sets : Sets) (are : AreSets next looms start sets) (recording : Recording next looms start) where
+module _ (next : ℕ → ℕ → ℕ) (looms : List Seat) (start : ℕ) (sets : Pair ℕ) (are : AreSets next looms start sets) (recording : Recording next looms start) where
   -- The start is not in the set of the yielding side: A yields only where the start is in the set of B, and no state is in both.
   start_not_yielding : InSet next looms start (side_number (yielding_of start sets)) start → ⊥
   start_not_yielding = by_test (has_of sets.b start) refl

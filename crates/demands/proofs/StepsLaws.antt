@@ -1,6 +1,6 @@
 -- A loom's count of steps: it is within the rank of the loom's place through every act, and so never passes six.
 -- Assumes nothing.
-use Rattle.std.specs.Prelude.{ℕ, ◌+◌, ◌≤◌, ◌<◌, ◌≡◌, refl, Bool, true, false, not, eqb, length, get_or, set}
+use Rattle.std.specs.Prelude.{ℕ, ◌+◌, ◌≤◌, ◌<◌, ◌≡◌, refl, Bool, true, false, not, eqb, length, get_or, set, Ok}
 use Rattle.std.proofs.Common.{arith, ap, eqb→eq, get_or-set_same, get_or-set_other, eqb-true}
 use Rattle.std.proofs.Math.Decide.{dec_lt}
 use mathlib.Core.List.{List, [], ◌∷◌}
@@ -8,14 +8,16 @@ use Rattle.std.proofs.lemmas.Bool.{eqb-false}
 use Rattle.cell.specs.Table.{entry_of}
 use Rattle.recording.specs.declared.Seat.{Seat}
 use Rattle.recording.specs.Recording.{one}
-use Rattle.loom.specs.declared.Side.{Side}
+use Rattle.sides.specs.declared.Side.{Side}
+use Rattle.sides.specs.Sides.{of_side}
 use Rattle.loom.specs.declared.Loom.{Loom}
-use Rattle.loom.specs.Looms.{moved_to, restarted_of}
+use Rattle.loom.specs.Looms.{counted, moved_to, restarted_of}
 use Rattle.loom.specs.Turn.{has_answered}
 use Rattle.agreement.specs.Steps.{steps_of as machine_steps, Unrestarted as MachineUnrestarted}
 use Rattle.agreement.proofs.StepsLaws.{rank, rank_at_most_six, rank_rises}
 use Rattle.group.specs.declared.Group.{Group}
-use Rattle.group.specs.Group.{empty_loom, loom_at, number_of, group_rules, with_loom, with_shared}
+use Rattle.group.specs.declared.Told.{Told}
+use Rattle.group.specs.Group.{empty_loom, loom_at, group_rules, with_loom, with_shared}
 use Rattle.group.specs.ActsLaws.{restarted_each}
 use Rattle.group.specs.Step.{step_of, restart_of, restart_all_of}
 use Rattle.demands.specs.Acts.{Act, loom_steps, loom_restarts, all_restart, History, acted_on, history_after}
@@ -61,7 +63,7 @@ module _ (table : List ℕ) (states operations : ℕ) (looms : List Seat) (good 
     -- Within rank after its turn.
     turn_within_rank : k < length looms → has_answered (loom_at g k).place ≡ false → WithinRank (moved_to (loom_at g k) (turn_in table states g k).place)
     turn_within_rank here going =
-        let rises = rank_rises (group_rules g) (loom_at g k).side (number_of g.numbers (loom_at g k).side) (entry_of table states (loom_at g k).operation) g.shared (loom_at g k).place in
+        let rises = rank_rises (group_rules g) (loom_at g k).side (of_side g.numbers (loom_at g k).side) (entry_of table states (loom_at g k).operation) g.shared (loom_at g k).place in
         omega (arith, all k here, ap (λ t. one (not t)) going, rises)
 
     within_by_step : AllWithin (length looms) (step_of table states operations g k).group
@@ -78,18 +80,19 @@ module _ (table : List ℕ) (states operations : ℕ) (looms : List Seat) (good 
         by_loom (no past) = rw (step_of_none table states operations looms good g fits k (omega arith)) all
 
     -- The count in a step's result is within six.
-    pub result_at_most_six : (step_of table states operations g k).steps ≤ 6
+    pub result_at_most_six : (t : Told) → (step_of table states operations g k).told ≡ Ok t → t.steps ≤ 6
     result_at_most_six = by_loom (dec_lt k (length looms))
       where
-        by_place : k < length looms → (b : Bool) → has_answered (loom_at g k).place ≡ b → (step_of table states operations g k).steps ≤ 6
-        by_place here true done = rw (step_of_answered table states operations looms good g fits k here done) (omega arith)
-        by_place here false going =
-            rw (step_of_unanswered table states operations looms good g fits k here going)
-            (omega (arith, turn_within_rank here going, rank_at_most_six (turn_in table states g k).place))
+        by_place : k < length looms → (b : Bool) → has_answered (loom_at g k).place ≡ b → (t : Told) → (step_of table states operations g k).told ≡ Ok t → t.steps ≤ 6
+        by_place here true done t told = let e = rw (step_of_answered table states operations looms good g fits k here done) at told in cc
+        by_place here false going t told =
+            let e = rw (step_of_unanswered table states operations looms good g fits k here going) at told in
+            let same : counted (loom_at g k).steps ≡ t.steps = cc in
+            omega (arith, same, turn_within_rank here going, rank_at_most_six (turn_in table states g k).place)
 
-        by_loom : Dec (k < length looms) → (step_of table states operations g k).steps ≤ 6
+        by_loom : Dec (k < length looms) → (t : Told) → (step_of table states operations g k).told ≡ Ok t → t.steps ≤ 6
         by_loom (yes here) = by_place here (has_answered (loom_at g k).place) refl
-        by_loom (no past) = rw (step_of_none table states operations looms good g fits k (omega arith)) (omega arith)
+        by_loom (no past) = λ t told. let e = rw (step_of_none table states operations looms good g fits k (omega arith)) at told in cc
 
     within_by_restart : AllWithin (length looms) (restart_of g k).group
     within_by_restart = by_loom (dec_lt k (length looms))

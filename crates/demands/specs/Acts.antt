@@ -1,12 +1,14 @@
 -- Acts on a group, and the events that they leave: document 01, "One loom's steps" and "Schedules". Each act goes through the definition
--- that the contract of `group::step`, `group::restart` or `group::restart_all` cites.
+-- that the contract of `Group::step`, `Group::restart` or `Group::restart_all` cites.
 -- Assumes nothing.
-use Rattle.std.specs.Prelude.{ℕ, cond, List, [], ◌∷◌, eqb}
+use Rattle.std.specs.Prelude.{ℕ, List, [], ◌∷◌, Result, Ok, Err}
+use Rattle.codes.specs.declared.Code.{Code}
 use Rattle.loom.specs.declared.Loom.{Loom}
 use Rattle.loom.specs.Sides.{register}
 use Rattle.agreement.specs.Machine.{Event, with_post, with_said}
 use Rattle.group.specs.declared.Group.{Group}
 use Rattle.group.specs.declared.Stepped.{Stepped}
+use Rattle.group.specs.declared.Told.{Told}
 use Rattle.group.specs.Group.{loom_at}
 use Rattle.group.specs.Step.{step_of, restart_of, restart_all_of}
 
@@ -21,13 +23,15 @@ pub record History : Type 0 where
   pub group : Group
   pub log : List Event
 
--- The log after loom l, of number k, took a step that came to r. A refused step leaves no event. A step from begin was a post: of what the
+-- The log after loom l, of number k, took a step that left the group g. A refused step leaves no event. A step from begin was a post: of what the
 -- register of the loom's side holds now. What a step said, an application or an answer, comes after it.
+abbrev pub noted_by : ℕ → Loom → Group → Result Told Code → List Event → List Event
+noted_by k l g (Ok told) log = with_said k l.side told.said (with_post k l.side (register g.shared l.side) l.place log)
+noted_by k l g (Err code) log = log
+
+-- The same of a step that came to r.
 unfoldable pub noted : ℕ → Loom → Stepped → List Event → List Event
-noted k l r log =
-    cond (eqb r.code 0)
-    (with_said k l.side r.said (with_post k l.side (register r.group.shared l.side) l.place log))
-    log
+noted k l r log = noted_by k l r.group r.told log
 
 -- The group that a step came to, and the log with its events.
 abbrev pub stepped_to : ℕ → History → Stepped → History

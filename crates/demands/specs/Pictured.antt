@@ -3,21 +3,21 @@
 use Rattle.std.specs.Prelude.{ℕ, ◌<◌, ◌≡◌, List, eqb, length}
 use Rattle.recording.specs.declared.Seat.{Seat}
 use Rattle.recording.specs.Recording.{side_count}
-use Rattle.loom.specs.Sides.{side_number}
+use Rattle.sides.specs.Sides.{side_number, of_side}
+use Rattle.sides.specs.declared.Pair.{Pair}
 use Rattle.loom.specs.Turn.{Rules}
 use Rattle.loom.specs.Looms.{rules_of}
 use Rattle.agreement.specs.Machine.{State}
-use Rattle.group.specs.declared.Sets.{Sets}
-use Rattle.group.specs.Group.{loom_at, set_of, yielding_of, leading_of}
+use Rattle.group.specs.Group.{loom_at, yielding_of, leading_of}
 use Rattle.demands.specs.Acts.{History}
 
 -- The rules that looms in these seats go by, from the start and the two sets.
-abbrev pub rules_by : List Seat → ℕ → Sets → Rules
+abbrev pub rules_by : List Seat → ℕ → Pair ℕ → Rules
 rules_by looms start sets =
     rules_of (record {
       start = start;
       side = leading_of start sets;
-      set = set_of sets (leading_of start sets);
+      set = of_side sets (leading_of start sets);
       alone = eqb (side_count (side_number (yielding_of start sets)) looms) 1;
     })
 

@@ -4,8 +4,9 @@
 use Rattle.std.specs.Prelude.{ℕ, ◌<◌, ◌≡◌, List, [], ◌∷◌, length}
 use Rattle.cell.specs.Table.{entry_of}
 use Rattle.recording.specs.declared.Seat.{Seat}
-use Rattle.loom.specs.declared.Side.{Side}
-use Rattle.loom.specs.Sides.{other, register}
+use Rattle.sides.specs.declared.Side.{Side}
+use Rattle.sides.specs.Sides.{other}
+use Rattle.loom.specs.Sides.{register}
 use Rattle.loom.specs.Turn.{Rules}
 use Rattle.agreement.specs.Machine.{Act as MachineAct, step, restart, restart_all, side_of}
 use Rattle.agreement.specs.Figure.{System, Setting}

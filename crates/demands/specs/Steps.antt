@@ -2,7 +2,7 @@
 -- Assumes nothing.
 use Rattle.std.specs.Prelude.{ℕ, ◌+◌, ◌≡◌, List, [], ◌∷◌, eqb}
 use Rattle.recording.specs.Recording.{one}
-use Rattle.loom.specs.declared.Side.{Side}
+use Rattle.sides.specs.declared.Side.{Side}
 use Rattle.loom.specs.declared.Place.TheVariants.{Answered}
 use Rattle.agreement.specs.Machine.{answered}
 use Rattle.agreement.specs.Agreed.{Had}

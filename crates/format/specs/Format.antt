@@ -1,15 +1,15 @@
 -- The fields of an order file and their refusals: document 01, "The order file" and "Codes and their order".
 -- Limits are a parameter, so that one edition's files can be compared with another's.
 -- Assumes nothing.
-use Rattle.std.specs.Prelude.{ℕ, zero, suc, ◌+◌, ◌*◌, ◌^◌, Bool, true, ◌&&◌, ◌||◌, List, [], ◌∷◌, ltb, eqb}
+use Rattle.std.specs.Prelude.{ℕ, zero, suc, ◌+◌, ◌*◌, ◌^◌, Bool, true, ◌&&◌, ◌||◌, List, [], ◌∷◌, ltb, eqb, Result, Ok, Err}
 use Rattle.cell.specs.Limits.{Limits, first_restart, entry_of_all}
 use Rattle.recording.specs.Recording.{side_count}
 use Rattle.recording.specs.declared.Seat.{Seat}
-use Rattle.xdr.specs.declared.Field.{Field}
-use Rattle.xdr.specs.Field.{judged, word_at, within, field_at, and_then, run, end_at}
+use Rattle.codes.specs.declared.Code.TheVariants as Code
+use Rattle.codes.specs.declared.Refusal.{Refusal}
+use Rattle.xdr.specs.Field.{Field, judged, word_at, within, field_at, and_then, run, end_at}
 use Rattle.xdr.specs.Opaque.{opaque_at}
 use Rattle.format.specs.declared.Plan.{Plan}
-use Rattle.format.specs.declared.Judgement.{Judgement}
 use Rattle.format.specs.Layout.{plan_of}
 use Rattle.format.specs.declared.Items.{Items}
 use Rattle.format.specs.declared.Items.TheVariants.{Entries, Looms, Acts}
@@ -27,9 +27,9 @@ names_act looms v = ltb v looms || (within first_restart (first_restart + looms)
 --   8, a side above 1, or an operation not fitted: "a loom's side and operation are two fields"
 --   13, an entry naming no act or no loom of this group
 unfoldable pub item_at : Items → List ℕ → ℕ → Field
-item_at (Entries states) s p = field_at (within 0 states) 5 s p
-item_at (Looms operations) s p = and_then (field_at (within 0 2) 8 s p) (field_at (within 0 operations) 8 s (p + 4))
-item_at (Acts looms) s p = field_at (names_act looms) 13 s p
+item_at (Entries states) s p = field_at (within 0 states) Code.Entry s p
+item_at (Looms operations) s p = and_then (field_at (within 0 2) Code.Seat s p) (field_at (within 0 operations) Code.Seat s (p + 4))
+item_at (Acts looms) s p = field_at (names_act looms) Code.Act s p
 
 -- The bytes of an item.
 abbrev pub width_of : Items → ℕ
@@ -51,27 +51,27 @@ seats_at s (suc n) p = seat_at s p ∷ seats_at s n (p + 8)
 
 -- "9, a side without a loom", "after the last loom", placed at the loom count p.
 unfoldable pub sides_at : List Seat → ℕ → Field
-sides_at seats p = judged true (ltb 0 (side_count 0 seats) && ltb 0 (side_count 1 seats)) p 9 p
+sides_at seats p = judged true (ltb 0 (side_count 0 seats) && ltb 0 (side_count 1 seats)) p Code.LacksSide p
 
 -- 2 and 3, states and operations not within limits; 4, the table's length isn't states × operations; then its entries.
 unfoldable pub head_of : Limits → List ℕ → Field
 head_of L s =
-    and_then (field_at (within 1 (L.states + 1)) 2 s 0)
-    (and_then (field_at (within 1 (L.operations + 1)) 3 s 4)
-    (and_then (field_at (exactly (word_at s 0 * word_at s 4)) 4 s 8)
+    and_then (field_at (within 1 (L.states + 1)) Code.States s 0)
+    (and_then (field_at (within 1 (L.operations + 1)) Code.Operations s 4)
+    (and_then (field_at (exactly (word_at s 0 * word_at s 4)) Code.TableLength s 8)
     (run_of (Entries (word_at s 0)) s (word_at s 8) 12)))
 
 -- 6, the start not below states; 7, looms not 2 to the limit; then the looms, and 9.
 unfoldable pub certificate_of : Limits → List ℕ → Plan → Field
 certificate_of L s P =
-    and_then (field_at (within 0 P.states) 6 s P.start)
-    (and_then (field_at (within 2 (L.looms + 1)) 7 s (P.start + 4))
+    and_then (field_at (within 0 P.states) Code.Start s P.start)
+    (and_then (field_at (within 2 (L.looms + 1)) Code.Looms s (P.start + 4))
     (and_then (run_of (Looms P.operations) s P.looms (P.start + 8))
     (sides_at (seats_at s P.looms (P.start + 8)) (P.start + 4))))
 
 -- 10, a piece number of 0.
 abbrev pub number_at : List ℕ → ℕ → Field
-number_at s p = field_at (within 1 (2 ^ 32)) 10 s p
+number_at s p = field_at (within 1 (2 ^ 32)) Code.PieceNumber s p
 
 -- "Bytes 32 to 126": those that a label is made of.
 abbrev pub printing : ℕ → Bool
@@ -79,7 +79,7 @@ printing = within 32 127
 
 -- 11, a label over the limit, or with a byte that is none of these: "an opaque's length is one field, its bytes with padding the next".
 unfoldable pub label_at : Limits → List ℕ → ℕ → Field
-label_at L s p = and_then (field_at (within 0 (L.label + 1)) 11 s p) (opaque_at printing 11 s (word_at s p) (p + 4))
+label_at L s p = and_then (field_at (within 0 (L.label + 1)) Code.Label s p) (opaque_at printing Code.Label s (word_at s p) (p + 4))
 
 -- The numbers and the labels of the two sides.
 unfoldable pub pieces_of : Limits → List ℕ → Plan → Field
@@ -92,9 +92,9 @@ pieces_of L s P =
 -- 12, a schedule over the limit; then its entries; "14 last", at the first extra byte.
 unfoldable pub schedule_of : Limits → List ℕ → Plan → Field
 schedule_of L s P =
-    and_then (field_at (within 0 (L.entries + 1)) 12 s P.schedule)
+    and_then (field_at (within 0 (L.entries + 1)) Code.Schedule s P.schedule)
     (and_then (run_of (Acts P.looms) s P.acts (P.schedule + 4))
-    (end_at 14 s (P.schedule + 4 + 4 * P.acts)))
+    (end_at Code.ExtraBytes s (P.schedule + 4 + 4 * P.acts)))
 
 -- "The fields in file order."
 unfoldable pub judged_by : Limits → List ℕ → Plan → Field
@@ -104,6 +104,10 @@ judged_by L s P = and_then (head_of L s) (and_then (certificate_of L s P) (and_t
 unfoldable pub verdict_of : Limits → List ℕ → Field
 verdict_of L s = judged_by L s (plan_of s)
 
--- The verdict with the plan that it went by.
-abbrev pub judgement_of : Limits → List ℕ → Judgement
-judgement_of L s = record { verdict = verdict_of L s; plan = plan_of s }
+-- With the verdict the plan that it went by: a file that is taken gives its plan, so that nobody works it out again.
+abbrev pub with_plan : Plan → Field → Result Plan Refusal
+with_plan P (Ok end) = Ok P
+with_plan P (Err e) = Err e
+
+abbrev pub judgement_of : Limits → List ℕ → Result Plan Refusal
+judgement_of L s = with_plan (plan_of s) (verdict_of L s)

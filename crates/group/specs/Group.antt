@@ -4,17 +4,16 @@ use Rattle.std.specs.Prelude.{ℕ, zero, suc, ◌+◌, Bool, cond, ◌||◌, Lis
 use Rattle.sets.specs.Sets.{has_of}
 use Rattle.cell.specs.Limits.{edition}
 use Rattle.recording.specs.Recording.{one}
-use Rattle.loom.specs.declared.Side.{Side}
-use Rattle.loom.specs.declared.Side.TheVariants.{A, B}
+use Rattle.sides.specs.declared.Side.{Side}
+use Rattle.sides.specs.declared.Side.TheVariants.{A, B}
 use Rattle.loom.specs.declared.Place.TheVariants.{Begin}
 use Rattle.loom.specs.declared.Loom.{Loom}
 use Rattle.loom.specs.declared.Lead.{Lead}
 use Rattle.loom.specs.declared.Shared.{Shared}
-use Rattle.loom.specs.Sides.{other, same_side}
+use Rattle.sides.specs.declared.Pair.{Pair}
+use Rattle.sides.specs.Sides.{other, same_side, of_side}
 use Rattle.loom.specs.Turn.{Rules}
 use Rattle.loom.specs.Looms.{rules_of, restarted_of}
-use Rattle.group.specs.declared.Sets.{Sets}
-use Rattle.group.specs.declared.Numbers.{Numbers}
 use Rattle.group.specs.declared.Group.{Group}
 
 -- "Loom slots beyond a group's count are side A, operation 0, begin, count 0."
@@ -25,27 +24,17 @@ empty_loom = record { side = A; operation = 0; steps = 0; place = Begin }
 abbrev pub loom_at : Group → ℕ → Loom
 loom_at g k = get_or g.looms k empty_loom
 
--- The set of a side.
-abbrev pub set_of : Sets → Side → ℕ
-set_of sets A = sets.a
-set_of sets B = sets.b
-
--- The number of a side.
-abbrev pub number_of : Numbers → Side → ℕ
-number_of numbers A = numbers.a
-number_of numbers B = numbers.b
-
 -- How many looms of a list are of the side s.
 unfoldable pub count_of : Side → List Loom → ℕ
 count_of s [] = 0
 count_of s (l ∷ ls) = one (same_side l.side s) + count_of s ls
 
 -- "The yielding side is B, except that it is A when the start is in the set of B."
-abbrev pub yielding_of : ℕ → Sets → Side
+abbrev pub yielding_of : ℕ → Pair ℕ → Side
 yielding_of start sets = cond (has_of sets.b start) A B
 
 -- "The other side is the leading side."
-abbrev pub leading_of : ℕ → Sets → Side
+abbrev pub leading_of : ℕ → Pair ℕ → Side
 leading_of start sets = other (yielding_of start sets)
 
 -- What the looms of a group go by: the start, the leading side and its set, and whether the yielding side has one loom.
@@ -53,7 +42,7 @@ unfoldable pub lead_of : Group → Lead
 lead_of g = record {
   start = g.start;
   side = leading_of g.start g.sets;
-  set = set_of g.sets (leading_of g.start g.sets);
+  set = of_side g.sets (leading_of g.start g.sets);
   alone = eqb (count_of (yielding_of g.start g.sets) (take g.count g.looms)) 1;
 }
 

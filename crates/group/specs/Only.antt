@@ -1,30 +1,22 @@
 -- Nothing else meets the contracts of `src/lib.rt`: what each says of a result determines the result.
 -- Assumes nothing.
-use Rattle.std.specs.Prelude.{ℕ, min, ◌≡◌, List}
+use Rattle.std.specs.Prelude.{ℕ, min, ◌≡◌, List, Result}
 use Rattle.std.proofs.Common.{sym, ◌∙◌}
 use Rattle.cell.specs.Limits.{edition}
 use Rattle.recording.specs.declared.Certificate.{Certificate}
-use Rattle.loom.specs.declared.Side.{Side}
+use Rattle.codes.specs.declared.Code.{Code}
+use Rattle.sides.specs.declared.Pair.{Pair}
 use Rattle.loom.specs.declared.Loom.{Loom}
 use Rattle.loom.specs.declared.Lead.{Lead}
 use Rattle.loom.specs.declared.Shared.{Shared}
 use Rattle.loom.specs.Looms.{rules_of}
-use Rattle.group.specs.declared.Sets.{Sets}
-use Rattle.group.specs.declared.Numbers.{Numbers}
 use Rattle.group.specs.declared.Group.{Group}
-use Rattle.group.specs.declared.Opened.{Opened}
 use Rattle.group.specs.declared.Outcome.{Outcome}
 use Rattle.group.specs.declared.Stepped.{Stepped}
 use Rattle.group.specs.declared.Restarted.{Restarted}
-use Rattle.group.specs.Group.{set_of, number_of, lead_of, looms_restarted}
+use Rattle.group.specs.Group.{lead_of, looms_restarted}
 use Rattle.group.specs.Open.{no_group, OpensTo}
 use Rattle.group.specs.Step.{step_on_of, step_of, restart_of, restart_all_of}
-
-pub sets-only-of : (self : Sets) (side : Side) (r s : ℕ) → r ≡ set_of self side → s ≡ set_of self side → r ≡ s
-sets-only-of self side r s p q = p ∙ sym q
-
-pub numbers-only-of : (self : Numbers) (side : Side) (r s : ℕ) → r ≡ number_of self side → s ≡ number_of self side → r ≡ s
-numbers-only-of self side r s p q = p ∙ sym q
 
 pub group-only-lead : (self : Group) (r s : Lead) → r ≡ lead_of self → s ≡ lead_of self → r ≡ s
 group-only-lead self r s p q = p ∙ sym q
@@ -32,7 +24,7 @@ group-only-lead self r s p q = p ∙ sym q
 pub only-no_group : (r s : Group) → r ≡ no_group → s ≡ no_group → r ≡ s
 only-no_group r s p q = p ∙ sym q
 
-pub only-open : (table : List ℕ) (states operations : ℕ) (certificate : Certificate) (numbers : Numbers) (area : List ℕ) (r s : Opened) (x y : List ℕ) →
+pub only-open : (table : List ℕ) (states operations : ℕ) (certificate : Certificate) (numbers : Pair ℕ) (area : List ℕ) (r s : Result Group Code) (x y : List ℕ) →
     OpensTo table states operations certificate numbers area r x → OpensTo table states operations certificate numbers area s y → (r ≡ s) × (x ≡ y)
 only-open table states operations certificate numbers area r s x y p q = (p.answer_is ∙ sym q.answer_is, p.area_is ∙ sym q.area_is)
 

@@ -1,128 +1,78 @@
 // A group of looms over one cell: opened, stepped and restarted.
 #![tactic(auto)]
 
-ghost use Rattle.std.specs.Prelude.{◌≡◌, true, cond, ℕ, ◌<◌, ◌≤◌, min, eqb, length, get_or, take};
+ghost use Rattle.std.specs.Prelude.{◌≡◌, ℕ, ◌<◌, ◌≤◌, min, get_or, take, count_by};
 ghost use Rattle.cell.specs.Limits.{edition};
-ghost use Rattle.loom.specs.Sides.{same_side};
-ghost use Rattle.recording.specs.Recording.{one, empty_seat};
+ghost use Rattle.sides.specs.Sides.{same_side};
+ghost use Rattle.recording.specs.Recording.{empty_seat};
 ghost use Rattle.loom.specs.Looms.{rules_of};
-ghost use Rattle.loom.specs.Turn.{has_answered};
-ghost use Rattle.group.specs.Open.{pieces, loom_of, slots_of, fresh_group, no_group, unopened, opened_by, OpensTo, Held};
-ghost use Rattle.group.specs.Group.{empty_loom, set_of, number_of, count_of, yielding_of, lead_of, none_of, looms_restarted};
-ghost use Rattle.group.specs.Step.{fitted_of, permit_of, may_step, unmoved, taken, step_on_of, refused, step_of, restart_of, restart_all_of};
+ghost use Rattle.group.specs.Open.{loom_of, slots_of, fresh_group, no_group, OpensTo, Held};
+ghost use Rattle.group.specs.Group.{yielding_of, lead_of, none_of, looms_restarted};
+ghost use Rattle.group.specs.Step.{fitted_of, may_step, step_on_of, told_of, step_of, restart_of, restart_all_of};
 
-use loom::{Lead, Loom, Place, Said, Shared, Side, Turned};
-use recording::{Certificate, Judged, Seat};
-
-// The two sides' sets of states.
-#[derive(Clone, Copy)]
-pub struct Sets {
-    pub a: u64,
-    pub b: u64,
-}
-
-// The two sides' piece numbers.
-#[derive(Clone, Copy)]
-pub struct Numbers {
-    pub a: u32,
-    pub b: u32,
-}
+use cell::Table;
+use codes::Code;
+use loom::{Lead, Loom, Place, Said, Shared};
+use recording::{Certificate, Seat};
+use sides::{Pair, Side};
 
 // A group: how many looms it has, the start, the two sets and numbers, fixed at opening; the shared memory; and its looms. Slots beyond
 // the count are empty.
-#[derive(Clone, Copy)]
+#[derive(Clone, Copy, Debug, PartialEq, Eq)]
 pub struct Group {
     pub count: usize,
     pub start: u8,
-    pub sets: Sets,
-    pub numbers: Numbers,
+    pub sets: Pair<u64>,
+    pub numbers: Pair<u32>,
     pub shared: Shared,
+    // Eight slots with the count beside them, since there is no heap and C hands over fixed memory.
     pub looms: [Loom; 8],
 }
 
-// Whether a step may be taken: the state that its operation leads to, or the code that refuses it.
-#[derive(Clone, Copy)]
-enum Permit {
-    Granted(u8),
-    Denied(u8),
-}
-
-// What an opening comes to: the code and the group.
-#[derive(Clone, Copy)]
-pub struct Opened {
-    pub code: u8,
-    pub group: Group,
-}
-
-// What a step on lent memory comes to: the code, what it says, the memory and the loom.
-#[derive(Clone, Copy)]
+// What a step on lent memory comes to: the memory and the loom, moved or as they were given, and what it says, or the code that refuses it.
+#[derive(Clone, Copy, Debug, PartialEq, Eq)]
 pub struct Outcome {
-    pub code: u8,
-    pub said: Said,
     pub shared: Shared,
     pub loom: Loom,
+    pub said: Result<Said, Code>,
 }
 
-// What a step of a group comes to: the code, what it says, the loom's step count, and the group.
-#[derive(Clone, Copy)]
-pub struct Stepped {
-    pub code: u8,
+// What a step that was taken tells: what it says, and the loom's step count.
+#[derive(Clone, Copy, Debug, PartialEq, Eq)]
+pub struct Told {
     pub said: Said,
     pub steps: u8,
-    pub group: Group,
 }
 
-// What a restart comes to: the code and the group.
-#[derive(Clone, Copy)]
+// What a step of a group comes to: the group, also where it was refused, and what the step tells, or the code that refuses it.
+#[derive(Clone, Copy, Debug, PartialEq, Eq)]
+pub struct Stepped {
+    pub group: Group,
+    pub told: Result<Told, Code>,
+}
+
+// What a restart comes to: the group, also where it was refused, and the code that refuses it. (It tells nothing else, unlike a step.)
+#[derive(Clone, Copy, Debug, PartialEq, Eq)]
 pub struct Restarted {
-    pub code: u8,
     pub group: Group,
-}
-
-impl Sets {
-    // The set of a side.
-    pub fn of(self, side: Side) -> u64
-        ensures { result ≡ set_of self side }
-    {
-        match side {
-            Side::A => self.a,
-            Side::B => self.b,
-        }
-    }
-}
-
-impl Numbers {
-    // The number of a side.
-    pub fn of(self, side: Side) -> u32
-        ensures { result ≡ number_of self side }
-    {
-        match side {
-            Side::A => self.a,
-            Side::B => self.b,
-        }
-    }
+    pub outcome: Result<(), Code>,
 }
 
 // An empty slot.
-fn empty_loom() -> Loom
-    ensures { result ≡ empty_loom }
-{
-    Loom {
-        side: Side::A,
-        operation: 0,
-        steps: 0,
-        place: Place::Begin,
-    }
-}
+const EMPTY: Loom = Loom {
+    side: Side::A,
+    operation: 0,
+    steps: 0,
+    place: Place::Begin,
+};
 
-// The loom of a seat as it opens.
+// The loom of a seat as it opens. (A cast, here and at the start: what is opened fits in a byte, which is proved.)
 fn loom_of(seat: Seat) -> Loom
     requires { seat.operation < 256 }
     ensures { result ≡ loom_of seat }
 {
-    let side = loom::side_from(seat.side);
     Loom {
-        side,
+        side: Side::from(seat.side),
         operation: seat.operation as u8,
         steps: 0,
         place: Place::Begin,
@@ -130,41 +80,34 @@ fn loom_of(seat: Seat) -> Loom
 }
 
 // The slots of a group: a loom for each of the first seats, and empty ones.
+#[tactic(auto, using(crate::proofs::OpenLaws::slots_next, crate::proofs::OpenLaws::slots_empty))]
 fn slots(seats: [Seat; 8], count: usize) -> [Loom; 8]
     requires { (count ≤ edition.looms) × ((k : ℕ) → k < count → (get_or seats k empty_seat).operation < 256) }
     ensures { result ≡ slots_of count seats }
 {
-    let mut looms = [empty_loom(); 8];
-    let mut i = 0;
-    while i < count {
-        let seat = seats[i];
-        let loom = loom_of(seat);
-        looms[i] = loom;
-        i += 1;
+    let mut looms = [EMPTY; 8];
+    for i in 0..count {
+        looms[i] = loom_of(seats[i]);
     }
     looms
 }
 
 // A group as it opens.
-fn fresh(certificate: Certificate, sets: Sets, numbers: Numbers) -> Group
+fn fresh(certificate: Certificate, sets: Pair<u64>, numbers: Pair<u32>) -> Group
     requires { Held certificate }
     ensures { result ≡ fresh_group certificate sets numbers }
 {
     let start = certificate.start as u8;
-    let seats = certificate.seats;
-    let looms = slots(seats, certificate.count);
-    let memory = Shared {
-        cell: start,
-        a: 0,
-        b: 0,
-    };
     Group {
         count: certificate.count,
         start,
         sets,
         numbers,
-        shared: memory,
-        looms,
+        shared: Shared {
+            cell: start,
+            registers: Pair { a: 0, b: 0 },
+        },
+        looms: slots(certificate.seats, certificate.count),
     }
 }
 
@@ -172,263 +115,207 @@ fn fresh(certificate: Certificate, sets: Sets, numbers: Numbers) -> Group
 pub fn no_group() -> Group
     ensures { result ≡ no_group }
 {
-    let looms = [empty_loom(); 8];
     Group {
         count: 0,
         start: 0,
-        sets: Sets { a: 0, b: 0 },
-        numbers: Numbers { a: 0, b: 0 },
+        sets: Pair { a: 0, b: 0 },
+        numbers: Pair { a: 0, b: 0 },
         shared: Shared {
             cell: 0,
-            a: 0,
-            b: 0,
+            registers: Pair { a: 0, b: 0 },
         },
-        looms,
+        looms: [EMPTY; 8],
     }
-}
-
-// A refused opening: zeros and no looms.
-fn unopened(code: u8) -> Opened
-    ensures { result ≡ unopened code }
-{
-    let group = no_group();
-    Opened { code, group }
-}
-
-// A group opened from a table, a certificate and two numbers. Refuses with the check's codes, then with 10 where a number is 0; then
-// there is no group. The area is as the check leaves it.
-pub fn open(
-    table: &[u8],
-    states: usize,
-    operations: usize,
-    certificate: Certificate,
-    a: u32,
-    b: u32,
-    area: &mut [u64],
-) -> Opened
-    ensures { OpensTo table.now states operations certificate (pieces a b) area.old result area.new }
-{
-    let judged = recording::judge(table, states, operations, certificate, area);
-    opening(judged, certificate, Numbers { a, b })
-}
-
-// What an opening comes to, once the check has judged.
-fn opening(judged: Judged, certificate: Certificate, numbers: Numbers) -> Opened
-    requires { judged.code ≡ 0 → Held certificate }
-    ensures { result ≡ opened_by judged certificate numbers }
-{
-    if judged.code != 0 {
-        return unopened(judged.code);
-    }
-    if numbers.a == 0 {
-        return unopened(10);
-    }
-    if numbers.b == 0 {
-        return unopened(10);
-    }
-    let sets = Sets {
-        a: judged.a,
-        b: judged.b,
-    };
-    let group = fresh(certificate, sets, numbers);
-    Opened { code: 0, group }
 }
 
 // The yielding side of a start and two sets.
-fn yielding(start: u8, sets: Sets) -> Side
+fn yielding(start: u8, sets: Pair<u64>) -> Side
     ensures { result ≡ yielding_of start sets }
 {
-    if sets::has(sets.b, start as usize) {
+    if sets::has(sets.b, usize::from(start)) {
         Side::A
     } else {
         Side::B
     }
 }
 
-// 1 where a loom's side is the side asked for, else 0.
-fn one_of(own: Side, side: Side) -> usize
-    ensures { result ≡ one (same_side own side) }
-{
-    if own.same(side) { 1 } else { 0 }
-}
-
-// How many of the first looms are of a side.
+// How many of the first looms are of a side: the slots with their count, as a group has them. (`recording` counts seats, whose sides are
+// numbers.)
 fn side_count(looms: [Loom; 8], count: usize, side: Side) -> usize
-    requires { count ≤ edition.looms }
-    ensures { result ≡ count_of side (take count looms) }
+    ensures { result ≡ count_by (λ l. same_side l.side side) (take count looms) }
 {
-    let mut found = 0;
-    let mut i = 0;
-    while i < count {
-        let loom = looms[i];
-        let own = loom.side;
-        found += one_of(own, side);
-        i += 1;
-    }
-    found
+    looms
+        .iter()
+        .take(count)
+        .filter(|loom| loom.side == side)
+        .count()
 }
 
 // The state after an operation in a state, where group and table fit: states and operations within limits, the table's length, the state,
 // the operation and the entry.
-fn fitted(
-    table: &[u8],
-    states: usize,
-    operations: usize,
-    operation: usize,
-    state: usize,
-) -> cell::Moved
-    ensures { result ≡ fitted_of table.now states operations operation state }
+#[tactic(auto, unfolding(crate::specs::Step::is_unfit))]
+fn fitted(table: Table<'_>, operation: usize, state: usize) -> Option<u8>
+    ensures { result ≡ fitted_of table.entry.entries.now table.entry.states table.entry.operations operation state }
 {
-    if states < 1 {
-        return cell::Moved::Refused;
+    if table.states < 1
+        || cell::STATES < table.states
+        || table.operations < 1
+        || cell::OPERATIONS < table.operations
+        || table.entries.len() != table.states * table.operations
+        || table.states <= state
+        || table.operations <= operation
+    {
+        return None;
     }
-    if cell::STATES < states {
-        return cell::Moved::Refused;
-    }
-    if operations < 1 {
-        return cell::Moved::Refused;
-    }
-    if cell::OPERATIONS < operations {
-        return cell::Moved::Refused;
-    }
-    if table.len() != states * operations {
-        return cell::Moved::Refused;
-    }
-    if states <= state {
-        return cell::Moved::Refused;
-    }
-    if operations <= operation {
-        return cell::Moved::Refused;
-    }
-    cell::next(table, states, operation, state)
+    table.next(operation, state)
 }
 
-// Whether a step may be taken: the state that its operation leads to, or the code that refuses it. 32 comes before 31.
-fn permitted(next: cell::Moved, place: Place) -> Permit
-    ensures { result ≡ permit_of next (has_answered place) }
+// Whether a loom may take a step on the shared memory: the state that its operation leads to, or 32 where group and table don't fit, then
+// 31 where the loom has answered.
+fn may_step(table: Table<'_>, shared: Shared, loom: Loom) -> Result<u8, Code>
+    ensures { result ≡ may_step table.entry.entries.now table.entry.states table.entry.operations shared loom }
 {
-    match next {
-        cell::Moved::Refused => Permit::Denied(32),
-        cell::Moved::To(state) => match place {
-            Place::Begin => Permit::Granted(state),
-            Place::Posted => Permit::Granted(state),
-            Place::Looking => Permit::Granted(state),
-            Place::Ready => Permit::Granted(state),
-            Place::Applied => Permit::Granted(state),
-            Place::Bound(_) => Permit::Granted(state),
-            Place::Answered(_) => Permit::Denied(31),
-        },
+    let next = fitted(table, usize::from(loom.operation), usize::from(shared.cell));
+    let state = next.ok_or(Code::Unfit)?;
+    if loom.place.has_answered() {
+        return Err(Code::HasAnswered);
     }
-}
-
-// Whether a loom may take a step on the shared memory: 32 where group and table don't fit, then 31 where the loom has answered.
-fn may_step(table: &[u8], states: usize, operations: usize, shared: Shared, loom: Loom) -> Permit
-    ensures { result ≡ may_step table.now states operations shared loom }
-{
-    let place = loom.place;
-    let next = fitted(
-        table,
-        states,
-        operations,
-        loom.operation as usize,
-        shared.cell as usize,
-    );
-    permitted(next, place)
-}
-
-// A refused step: the memory and the loom as they were given.
-fn unmoved(code: u8, shared: Shared, loom: Loom) -> Outcome
-    ensures { result ≡ unmoved code shared loom }
-{
-    Outcome {
-        code,
-        said: Said::Nothing,
-        shared,
-        loom,
-    }
-}
-
-// A step that was taken.
-fn taken(turned: Turned) -> Outcome
-    ensures { result ≡ taken turned }
-{
-    let said = turned.said;
-    let left = turned.shared;
-    let moved = turned.loom;
-    Outcome {
-        code: 0,
-        said,
-        shared: left,
-        loom: moved,
-    }
+    Ok(state)
 }
 
 // One step of a loom on the shared memory, by the rules of its group: `number` is what it posts. Refuses with 32 where group and table
 // don't fit, then with 31 where the loom has answered; then nothing has moved.
-pub fn step_on(
-    lead: Lead,
-    number: u32,
-    table: &[u8],
-    states: usize,
-    operations: usize,
-    shared: Shared,
-    loom: Loom,
-) -> Outcome
-    ensures { result ≡ step_on_of (rules_of lead) number table.now states operations shared loom }
+pub fn step_on(lead: Lead, number: u32, table: Table<'_>, shared: Shared, loom: Loom) -> Outcome
+    ensures { result ≡ step_on_of (rules_of lead) number table.entry.entries.now table.entry.states table.entry.operations shared loom }
 {
-    match may_step(table, states, operations, shared, loom) {
-        Permit::Denied(code) => unmoved(code, shared, loom),
-        Permit::Granted(state) => taken(loom::turn(lead, number, state, shared, loom)),
-    }
-}
-
-// A count, or the limit of looms where it is past that.
-fn within(count: usize) -> usize
-    ensures { result ≡ min count edition.looms }
-{
-    if cell::LOOMS < count {
-        cell::LOOMS
-    } else {
-        count
-    }
-}
-
-// How many looms of a side there are among so many, or among all slots where these are fewer.
-fn side_count_of(looms: [Loom; 8], count: usize, side: Side) -> usize
-    ensures { result ≡ count_of side (take count looms) }
-{
-    side_count(looms, within(count), side)
-}
-
-impl Group {
-    // What the group's looms go by, for any group; a group of more than 8 has 8 slots to count. It is the same after any act.
-    pub fn lead(self) -> Lead
-        ensures { result ≡ lead_of self }
-    {
-        let sets = self.sets;
-        let looms = self.looms;
-        let yields = yielding(self.start, sets);
-        let side = yields.other();
-        let set = sets.of(side);
-        let few = side_count_of(looms, self.count, yields);
-        Lead {
-            start: self.start,
-            side,
-            set,
-            alone: few == 1,
+    match may_step(table, shared, loom) {
+        Err(code) => Outcome {
+            shared,
+            loom,
+            said: Err(code),
+        },
+        Ok(state) => {
+            let turned = loom::turn(lead, number, state, shared, loom);
+            Outcome {
+                shared: turned.shared,
+                loom: turned.loom,
+                said: Ok(turned.said),
+            }
         }
     }
 }
 
-// A refused step: the group as it was given.
-fn refused(code: u8, group: Group) -> Stepped
-    ensures { result ≡ refused code group }
-{
-    Stepped {
-        code,
-        said: Said::Nothing,
-        steps: 0,
-        group,
+impl Outcome {
+    // What the step tells of its loom.
+    fn told(self) -> Result<Told, Code>
+        ensures { result ≡ told_of self.loom.steps self.said }
+    {
+        let steps = self.loom.steps;
+        self.said.map(|said| Told { said, steps })
+    }
+}
+
+impl Group {
+    // A group opened from a table, a certificate and two numbers. Refuses with the check's codes, then with 10 where a number is 0. The
+    // area is as the check leaves it.
+    #[tactic(auto, using(crate::proofs::OpenLaws::opens_by), unfolding(crate::specs::Open::opened_by))]
+    pub fn open(
+        table: Table<'_>,
+        certificate: Certificate,
+        numbers: Pair<u32>,
+        area: &mut [u64],
+    ) -> Result<Group, Code>
+        ensures { OpensTo table.entry.entries.now table.entry.states table.entry.operations certificate numbers area.old result area.new }
+    {
+        let judged = recording::judge(table, certificate, area);
+        if let Err(refusal) = judged.outcome {
+            return Err(refusal.code);
+        }
+        if numbers.a == 0 || numbers.b == 0 {
+            return Err(Code::PieceNumber);
+        }
+        Ok(fresh(certificate, judged.sets, numbers))
+    }
+
+    // What the group's looms go by, for any group; a group of more than 8 has 8 slots to count. It is the same after any act.
+    #[tactic(auto, using(crate::specs::GroupLaws::count_of_side), unfolding(crate::specs::Group::lead_of))]
+    pub fn lead(self) -> Lead
+        ensures { result ≡ lead_of self }
+    {
+        let yields = yielding(self.start, self.sets);
+        let side = yields.other();
+        Lead {
+            start: self.start,
+            side,
+            set: self.sets.of(side),
+            alone: side_count(self.looms, self.count, yields) == 1,
+        }
+    }
+
+    // One step of a loom of a group. Refuses with 30 where there is no such loom or the group has more than 8, then with 32 where group and
+    // table don't fit, then with 31 where the loom has answered; then the group is as it was given. No group is trusted.
+    #[tactic(auto, unfolding(crate::specs::Step::step_of))]
+    pub fn step(self, table: Table<'_>, loom: usize) -> Stepped
+        ensures { result ≡ step_of table.entry.entries.now table.entry.states table.entry.operations self loom }
+    {
+        if no_loom(self.count, loom) {
+            return Stepped {
+                group: self,
+                told: Err(Code::NoLoom),
+            };
+        }
+        let own = self.looms[loom];
+        let outcome = step_on(
+            self.lead(),
+            self.numbers.of(own.side),
+            table,
+            self.shared,
+            own,
+        );
+        let mut after = self;
+        after.shared = outcome.shared;
+        after.looms[loom] = outcome.loom;
+        Stepped {
+            group: after,
+            told: outcome.told(),
+        }
+    }
+
+    // A restart of one loom, in any place. Refuses with 30 where there is no such loom or the group has more than 8.
+    #[tactic(auto, unfolding(crate::specs::Step::restart_of))]
+    pub fn restart(self, loom: usize) -> Restarted
+        ensures { result ≡ restart_of self loom }
+    {
+        if no_loom(self.count, loom) {
+            return Restarted {
+                group: self,
+                outcome: Err(Code::NoLoom),
+            };
+        }
+        let mut looms = self.looms;
+        looms[loom] = looms[loom].restarted();
+        Restarted {
+            group: Group { looms, ..self },
+            outcome: Ok(()),
+        }
+    }
+
+    // A restart of every loom of a group. Refuses with 30 where the group has more than 8.
+    #[tactic(auto, unfolding(crate::specs::Step::restart_all_of))]
+    pub fn restart_all(self) -> Restarted
+        ensures { result ≡ restart_all_of self }
+    {
+        if cell::LOOMS < self.count {
+            return Restarted {
+                group: self,
+                outcome: Err(Code::NoLoom),
+            };
+        }
+        let looms = restarted_below(self.looms, self.count);
+        Restarted {
+            group: Group { looms, ..self },
+            outcome: Ok(()),
+        }
     }
 }
 
@@ -439,92 +326,14 @@ fn no_loom(count: usize, loom: usize) -> bool
     cell::LOOMS < count || count <= loom
 }
 
-// The step count that a step gives: the loom's, and none where it was refused.
-fn count_given(code: u8, steps: u8) -> u8
-    ensures { result ≡ cond (eqb code 0) steps 0 }
-{
-    if code == 0 { steps } else { 0 }
-}
-
-// One step of a loom of a group. Refuses with 30 where there is no such loom or the group has more than 8, then with 32 where group and
-// table don't fit, then with 31 where the loom has answered; then the group is as it was given. No group is trusted.
-pub fn step(group: Group, table: &[u8], states: usize, operations: usize, loom: usize) -> Stepped
-    ensures { result ≡ step_of table.now states operations group loom }
-{
-    if no_loom(group.count, loom) {
-        return refused(30, group);
-    }
-    let mut after = group;
-    let own = after.looms[loom];
-    let side = own.side;
-    let numbers = after.numbers;
-    let memory = after.shared;
-    let outcome = step_on(
-        after.lead(),
-        numbers.of(side),
-        table,
-        states,
-        operations,
-        memory,
-        own,
-    );
-    let said = outcome.said;
-    let left = outcome.shared;
-    let moved = outcome.loom;
-    after.shared = left;
-    after.looms[loom] = moved;
-    Stepped {
-        code: outcome.code,
-        said,
-        steps: count_given(outcome.code, moved.steps),
-        group: after,
-    }
-}
-
-// A restart of one loom, in any place. Refuses with 30 where there is no such loom or the group has more than 8.
-pub fn restart(group: Group, loom: usize) -> Restarted
-    ensures { result ≡ restart_of group loom }
-{
-    if no_loom(group.count, loom) {
-        return Restarted { code: 30, group };
-    }
-    let mut out = group;
-    let own = out.looms[loom];
-    out.looms[loom] = own.restarted();
-    Restarted {
-        code: 0,
-        group: out,
-    }
-}
-
-// A restart of every loom of a group. Refuses with 30 where the group has more than 8.
-pub fn restart_all(group: Group) -> Restarted
-    ensures { result ≡ restart_all_of group }
-{
-    if cell::LOOMS < group.count {
-        return Restarted { code: 30, group };
-    }
-    let looms = group.looms;
-    let restarted = restarted_below(looms, group.count);
-    let mut out = group;
-    out.looms = restarted;
-    Restarted {
-        code: 0,
-        group: out,
-    }
-}
-
 // The looms with those below a number restarted, or all of them where they are fewer.
+#[tactic(auto, using(crate::specs::GroupLaws::restarted_next), unfolding(crate::specs::Group::looms_restarted))]
 pub fn restarted_below(looms: [Loom; 8], count: usize) -> [Loom; 8]
     ensures { result ≡ looms_restarted looms (min count edition.looms) }
 {
-    let few = within(count);
     let mut out = looms;
-    let mut i = 0;
-    while i < few {
-        let own = out[i];
-        out[i] = own.restarted();
-        i += 1;
+    for i in 0..count.min(cell::LOOMS) {
+        out[i] = out[i].restarted();
     }
     out
 }

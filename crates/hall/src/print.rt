@@ -1,83 +1,63 @@
-// The printer's lines. Each answers whether all of it was written.
+// The printer's lines. Each gives the error of a write that failed.
+use codes::{Code, Refusal};
 use recording::Checked;
-use schedule::Ran;
-
-// Bytes as they are.
-fn text(rt: &impl Print, bytes: &[u8]) -> bool {
-    rt.write_all(bytes).is_ok()
-}
-
-// A space and a number in decimal digits.
-fn spaced(rt: &impl Print, n: usize) -> bool {
-    text(rt, b" ") && rt.print(n).is_ok()
-}
+use schedule::Tally;
+use std::io;
 
 // `FILE code place`, alone for a refused file.
-pub fn file_line(rt: &impl Print, code: u8, place: usize) -> bool {
-    text(rt, b"FILE") && spaced(rt, code as usize) && spaced(rt, place) && text(rt, b"\n")
+pub fn file_line(rt: &impl Print, refusal: Refusal) -> io::Result<()> {
+    println!(rt; "FILE {refusal}")
 }
 
 // `CHECK code place a b`.
-pub fn check_line(rt: &impl Print, checked: Checked) -> bool {
-    text(rt, b"CHECK")
-        && spaced(rt, checked.code as usize)
-        && spaced(rt, checked.place)
-        && spaced(rt, checked.a)
-        && spaced(rt, checked.b)
-        && text(rt, b"\n")
-}
-
-// `RUN code entries a b applied longest cell`.
-pub fn run_line(rt: &impl Print, run: Ran) -> bool {
-    let group = run.group;
-    let shared = group.shared;
-    text(rt, b"RUN")
-        && spaced(rt, run.code as usize)
-        && spaced(rt, run.entries)
-        && spaced(rt, run.a)
-        && spaced(rt, run.b)
-        && spaced(rt, run.applied)
-        && spaced(rt, run.longest)
-        && spaced(rt, shared.cell as usize)
-        && text(rt, b"\n")
-}
-
-// The digit of a mark, which is below 10.
-fn digit(mark: u8) -> u8 {
-    48 + mark % 10
-}
-
-// The digits of the marks, as many as there is room for.
-fn put_digits(marks: &[u8], digits: &mut [u8]) {
-    let mut i = 0;
-    while i < marks.len() {
-        if digits.len() <= i {
-            return;
-        }
-        digits[i] = digit(marks[i]);
-        i += 1;
+pub fn check_line(rt: &impl Print, checked: Checked) -> io::Result<()> {
+    let (a, b) = (checked.sizes.a, checked.sizes.b);
+    match checked.outcome {
+        Ok(()) => println!(rt; "CHECK 0 0 {a} {b}"),
+        Err(refusal) => println!(rt; "CHECK {refusal} {a} {b}"),
     }
+}
+
+// `RUN code entries a b applied longest cell`, of a run that was not refused.
+pub fn run_line(rt: &impl Print, tally: Tally, cell: u8) -> io::Result<()> {
+    let (a, b) = (tally.answers.a, tally.answers.b);
+    println!(rt;
+        "RUN 0 {} {a} {b} {} {} {cell}",
+        tally.entries, tally.applied, tally.longest
+    )
+}
+
+// The same of a refused run: zeros.
+pub fn unrun_line(rt: &impl Print, code: Code) -> io::Result<()> {
+    println!(rt; "RUN {code} 0 0 0 0 0 0")
 }
 
 // `MARKS` and the marks as digits; `MARKS` alone for an empty schedule.
-pub fn marks_line(rt: &impl Print, marks: &[u8]) -> bool {
-    if marks.len() == 0 {
-        return text(rt, b"MARKS\n");
+pub fn marks_line(rt: &impl Print, marks: &[u8]) -> io::Result<()> {
+    if marks.is_empty() {
+        return rt.write_all(b"MARKS\n");
     }
-    let mut digits = [0u8; 4096];
-    put_digits(marks, &mut digits);
-    text(rt, b"MARKS ") && text(rt, xdr::part_at(&digits, 0, marks.len())) && text(rt, b"\n")
+    // All at once, and not a write a mark.
+    let mut digits = [0u8; cell::ENTRIES];
+    for (digit, mark) in digits.iter_mut().zip(marks) {
+        *digit = b'0' + mark % 10;
+    }
+    rt.write_all(b"MARKS ")?;
+    rt.write_all(xdr::part_at(&digits, 0, marks.len()))?;
+    rt.write_all(b"\n")
 }
 
 // `PIECE` and the winner's label; `PIECE` alone for a label trimmed to nothing.
-pub fn piece_line(rt: &impl Print, label: &[u8]) -> bool {
-    if label.len() == 0 {
-        return text(rt, b"PIECE\n");
+pub fn piece_line(rt: &impl Print, label: &[u8]) -> io::Result<()> {
+    if label.is_empty() {
+        return rt.write_all(b"PIECE\n");
     }
-    text(rt, b"PIECE ") && text(rt, label) && text(rt, b"\n")
+    rt.write_all(b"PIECE ")?;
+    rt.write_all(label)?;
+    rt.write_all(b"\n")
 }
 
 // `NONE`, with no answer.
-pub fn none_line(rt: &impl Print) -> bool {
-    text(rt, b"NONE\n")
+pub fn none_line(rt: &impl Print) -> io::Result<()> {
+    rt.write_all(b"NONE\n")
 }

@@ -10,7 +10,7 @@ use Rattle.lent.specs.declared.Lent.{Lent}
 
 -- Of what a step comes to: what is handed back, and what stays in the record.
 abbrev pub returned : Outcome → Lent
-returned o = record { code = o.code; said = o.said; loom = o.loom }
+returned o = record { loom = o.loom; said = o.said }
 
 abbrev pub left : Outcome → Shared
 left o = o.shared

@@ -1,12 +1,12 @@
 -- A file of 20,648 bytes that is taken: 64 states, 16 operations, every entry 0; eight looms, the first of side B; labels of 32 spaces; a
 -- schedule of 4,096 steps of loom 0.
 -- Assumes nothing.
-use Rattle.std.specs.Prelude.{ℕ, ◌+◌, ◌*◌, ◌≤◌, ◌<◌, ◌≡◌, refl, Bool, true, List, [], ◌∷◌, ◌++◌, length, get_or, replicate}
+use Rattle.std.specs.Prelude.{ℕ, ◌+◌, ◌*◌, ◌≤◌, ◌<◌, ◌≡◌, refl, Bool, true, List, [], ◌∷◌, ◌++◌, length, get_or, replicate, Ok}
 use Rattle.std.proofs.Common.{arith, sym, ap, ◌∙◌, length-append, get_or-append-add, le-leb}
 use Rattle.std.proofs.lemmas.List.{length-replicate, get_or-replicate}
 use Rattle.std.proofs.Math.ListN.{get_or-append}
 use Rattle.cell.specs.Limits.{edition}
-use Rattle.xdr.specs.declared.Field.TheVariants.{Is}
+use Rattle.codes.specs.declared.Code.{Code}
 use Rattle.xdr.specs.Field.{word_at, within, field_at, Passed, run}
 use Rattle.xdr.specs.FieldLaws.{word_inside, field_takes, run_takes, end_takes}
 use Rattle.xdr.specs.Opaque.{pad_of, all, opaque_at}
@@ -75,7 +75,7 @@ zero_word from size k zeros l fits =
     ∙ simp (first, at 1 (omega arith), at 2 (omega arith), at 3 (omega arith))
 
 -- A field of such a word, which is taken where 0 passes.
-zero_field : (ok : ℕ → Bool) (code from size k : ℕ) → ((j : ℕ) → j < size → get_or longest_file (from + j) 0 ≡ 0) → k + 4 ≤ size → from + size ≤ 20648
+zero_field : (ok : ℕ → Bool) (code : Code) (from size k : ℕ) → ((j : ℕ) → j < size → get_or longest_file (from + j) 0 ≡ 0) → k + 4 ≤ size → from + size ≤ 20648
     → ok 0 ≡ true → Passed (field_at ok code longest_file (from + k))
 zero_field ok code from size k zeros l fits good = (
   word_at longest_file (from + k),
@@ -111,13 +111,13 @@ count_word : word_at longest_file 8 ≡ 1024
 unfolding longest_file front word_at
 count_word = refl
 
-table_taken : run (item_at (Entries 64) longest_file) 4 1024 12 ≡ Is (12 + 1024 * 4)
+table_taken : run (item_at (Entries 64) longest_file) 4 1024 12 ≡ Ok (12 + 1024 * 4)
 unfolding item_at within
-table_taken = run_takes (item_at (Entries 64) longest_file) 4 1024 12 (λ j l. zero_field (within 0 64) 5 12 4096 (j * 4) table_zero (omega arith) (omega arith) refl)
+table_taken = run_takes (item_at (Entries 64) longest_file) 4 1024 12 (λ j l. zero_field (within 0 64) Code.Entry 12 4096 (j * 4) table_zero (omega arith) (omega arith) refl)
 
-acts_taken : run (item_at (Acts 8) longest_file) 4 4096 4264 ≡ Is (4264 + 4096 * 4)
+acts_taken : run (item_at (Acts 8) longest_file) 4 4096 4264 ≡ Ok (4264 + 4096 * 4)
 unfolding item_at names_act
-acts_taken = run_takes (item_at (Acts 8) longest_file) 4 4096 4264 (λ j l. zero_field (names_act 8) 13 4264 16384 (j * 4) schedule_zero (omega arith) (omega arith) refl)
+acts_taken = run_takes (item_at (Acts 8) longest_file) 4 4096 4264 (λ j l. zero_field (names_act 8) Code.Act 4264 16384 (j * 4) schedule_zero (omega arith) (omega arith) refl)
 
 entries_pass : Passed (run_of (Entries (word_at longest_file 0)) longest_file (word_at longest_file 8) 12)
 entries_pass = (4108, rw (states_word, count_word) table_taken)
@@ -139,7 +139,7 @@ each_passes = record {
   label_B = (4260, refl);
   schedule = (4096, refl);
   acts = (20648, acts_taken);
-  end = (20648, end_takes 14 longest_file 20648 (omega (arith, longest_length)));
+  end = (20648, end_takes Code.ExtraBytes longest_file 20648 (omega (arith, longest_length)));
 }
 
 -- "The longest file has 20,648 bytes": this one has, and is taken.

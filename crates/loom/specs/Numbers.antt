@@ -1,7 +1,7 @@
--- The document's numbers for what is an enum here: places, and what a step says. A side's number is in Sides.
+-- The document's numbers for what is an enum here: places, and what a step says. A side's number is in the crate `sides`.
 -- Assumes nothing.
-use Rattle.std.specs.Prelude.{ℕ, cond, eqb}
-use Rattle.loom.specs.declared.Side.TheVariants.{A, B}
+use Rattle.std.specs.Prelude.{ℕ, Bool, true, false, cond, eqb}
+use Rattle.sides.specs.declared.Side.TheVariants.{A, B}
 use Rattle.loom.specs.declared.Place.{Place}
 use Rattle.loom.specs.declared.Place.TheVariants.{Begin, Posted, Looking, Ready, Applied, Bound, Answered}
 use Rattle.loom.specs.declared.Said.{Said}
@@ -39,6 +39,12 @@ said_number Nothing = 0
 said_number Application = 0
 said_number (Answer A v) = 1
 said_number (Answer B v) = 2
+
+-- Whether the step applied the loom's operation.
+abbrev pub is_application : Said → Bool
+is_application Nothing = false
+is_application Application = true
+is_application (Answer s v) = false
 
 -- How many operations the step applied.
 abbrev pub said_applied : Said → ℕ

@@ -2,7 +2,7 @@
 -- Assumes nothing.
 use Rattle.std.specs.Prelude.{ℕ, ◌≡◌, Bool}
 use Rattle.std.proofs.Common.{sym, ◌∙◌}
-use Rattle.loom.specs.declared.Side.{Side}
+use Rattle.sides.specs.declared.Side.{Side}
 use Rattle.loom.specs.declared.Place.{Place}
 use Rattle.loom.specs.declared.Place.TheVariants.{Posted, Applied, Bound, Answered}
 use Rattle.loom.specs.declared.Loom.{Loom}
@@ -10,16 +10,11 @@ use Rattle.loom.specs.declared.Lead.{Lead}
 use Rattle.loom.specs.declared.Shared.{Shared}
 use Rattle.loom.specs.declared.Said.{Said}
 use Rattle.loom.specs.declared.Turned.{Turned}
-use Rattle.loom.specs.Sides.{side_number, side_from, other, same_side, register, with_register, with_cell}
-use Rattle.loom.specs.Turn.{decided, looks, after_posted, after_looking}
+use Rattle.sides.specs.Sides.{other}
+use Rattle.loom.specs.Sides.{register, with_register, with_cell}
+use Rattle.loom.specs.Turn.{decided, looks, after_posted, after_looking, has_answered}
 use Rattle.loom.specs.Looms.{moved_to, restarted_of, rules_of, turned_of}
-use Rattle.loom.specs.Numbers.{place_number, place_from, said_number, said_applied, said_piece}
-
-pub side-only-other : (self r s : Side) → r ≡ other self → s ≡ other self → r ≡ s
-side-only-other self r s p q = p ∙ sym q
-
-pub side-only-same : (self side : Side) (r s : Bool) → r ≡ same_side self side → s ≡ same_side self side → r ≡ s
-side-only-same self side r s p q = p ∙ sym q
+use Rattle.loom.specs.Numbers.{place_number, place_from, said_number, is_application, said_piece}
 
 pub shared-only-register : (self : Shared) (side : Side) (r s : ℕ) → r ≡ register self side → s ≡ register self side → r ≡ s
 shared-only-register self side r s p q = p ∙ sym q
@@ -33,12 +28,6 @@ shared-only-with_register self side number r s p q = p ∙ sym q
 
 pub shared-only-with_cell : (self : Shared) (state : ℕ) (r s : Shared) → r ≡ with_cell self state → s ≡ with_cell self state → r ≡ s
 shared-only-with_cell self state r s p q = p ∙ sym q
-
-pub only-side_number : (side : Side) (r s : ℕ) → r ≡ side_number side → s ≡ side_number side → r ≡ s
-only-side_number side r s p q = p ∙ sym q
-
-pub only-side_from : (number : ℕ) (r s : Side) → r ≡ side_from number → s ≡ side_from number → r ≡ s
-only-side_from number r s p q = p ∙ sym q
 
 pub lead-only-decided : (self : Lead) (cell : ℕ) (r s : Side) → r ≡ decided (rules_of self) cell → s ≡ decided (rules_of self) cell → r ≡ s
 lead-only-decided self cell r s p q = p ∙ sym q
@@ -90,11 +79,14 @@ only-place_number place r s p q = p ∙ sym q
 pub only-place_from : (number : ℕ) (r s : Place) → r ≡ place_from number → s ≡ place_from number → r ≡ s
 only-place_from number r s p q = p ∙ sym q
 
-pub only-said_number : (said : Said) (r s : ℕ) → r ≡ said_number said → s ≡ said_number said → r ≡ s
-only-said_number said r s p q = p ∙ sym q
+pub place-only-has_answered : (self : Place) (r s : Bool) → r ≡ has_answered self → s ≡ has_answered self → r ≡ s
+place-only-has_answered self r s p q = p ∙ sym q
 
-pub only-said_applied : (said : Said) (r s : ℕ) → r ≡ said_applied said → s ≡ said_applied said → r ≡ s
-only-said_applied said r s p q = p ∙ sym q
+pub said-only-mark : (self : Said) (r s : ℕ) → r ≡ said_number self → s ≡ said_number self → r ≡ s
+said-only-mark self r s p q = p ∙ sym q
 
-pub only-said_piece : (said : Said) (r s : ℕ) → r ≡ said_piece said → s ≡ said_piece said → r ≡ s
-only-said_piece said r s p q = p ∙ sym q
+pub said-only-applied : (self : Said) (r s : Bool) → r ≡ is_application self → s ≡ is_application self → r ≡ s
+said-only-applied self r s p q = p ∙ sym q
+
+pub said-only-piece : (self : Said) (r s : ℕ) → r ≡ said_piece self → s ≡ said_piece self → r ≡ s
+said-only-piece self r s p q = p ∙ sym q

@@ -1,13 +1,14 @@
 -- One step of one loom, by the table of document 01, "One loom's steps".
 -- Assumes nothing.
 use Rattle.std.specs.Prelude.{ℕ, zero, suc, Bool, true, false, cond, ◌&&◌, eqb}
-use Rattle.loom.specs.declared.Side.{Side}
+use Rattle.sides.specs.declared.Side.{Side}
 use Rattle.loom.specs.declared.Place.{Place}
 use Rattle.loom.specs.declared.Place.TheVariants.{Begin, Posted, Looking, Ready, Applied, Bound, Answered}
 use Rattle.loom.specs.declared.Shared.{Shared}
 use Rattle.loom.specs.declared.Said.{Said}
 use Rattle.loom.specs.declared.Said.TheVariants.{Nothing, Application, Answer}
-use Rattle.loom.specs.Sides.{other, same_side, register, with_register, with_cell}
+use Rattle.sides.specs.Sides.{other, same_side}
+use Rattle.loom.specs.Sides.{register, with_register, with_cell}
 
 -- What every loom of a group goes by: the start, the leading side, whether a state is in the leading side's set, and whether the
 -- yielding side has one loom.

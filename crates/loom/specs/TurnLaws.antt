@@ -2,24 +2,24 @@
 -- Assumes nothing.
 use Rattle.std.specs.Prelude.{ℕ, zero, suc, ◌≡◌, refl, Bool, true, false, cond, ◌&&◌}
 use Rattle.std.proofs.Common.{sym, ap, ◌∙◌, eq-eqb, ne_eqb}
-use Rattle.loom.specs.declared.Side.{Side}
+use Rattle.sides.specs.declared.Side.{Side}
 use Rattle.loom.specs.declared.Place.{Place}
 use Rattle.loom.specs.declared.Place.TheVariants.{Begin, Posted, Looking, Ready, Applied, Bound, Answered}
 use Rattle.loom.specs.declared.Shared.{Shared}
-use Rattle.loom.specs.Sides.{other, same_side}
+use Rattle.sides.specs.Sides.{other, same_side}
 use Rattle.loom.specs.Turn.{Rules, decided, looks, after_posted, after_looking, turn_of}
 
 -- In its set the cell decides for the leading side.
 pub decided_leading : (R : Rules) (q : ℕ) → R.in_leading q ≡ true → R.leading ≡ decided R q
-decided_leading R q h = sym (ap (λ t. cond t R.leading (other R.leading)) h)
+decided_leading R q h = simp h
 
 -- Elsewhere it decides for the yielding side.
 pub decided_yielding : (R : Rules) (q : ℕ) (s : Side) → R.in_leading q ≡ false → s ≡ other R.leading → s ≡ decided R q
-decided_yielding R q s h e = e ∙ sym (ap (λ t. cond t R.leading (other R.leading)) h)
+decided_yielding R q s h e = simp (h, e)
 
 -- A loom looks where the yielding side has one loom, and it is of that side.
 pub looks_alone : (R : Rules) (s : Side) (t : Bool) → R.yields_alone ≡ true → t ≡ same_side s (other R.leading) → t ≡ looks R s
-looks_alone R s t h e = e ∙ sym (ap (λ a. a && same_side s (other R.leading)) h)
+looks_alone R s t h e = simp (h, e)
 
 -- From posted, away from the start: bound to the side decided by the cell.
 pub posted_away : (R : Rules) (s x : Side) (q : ℕ) → (q ≡ R.start → ⊥) → x ≡ decided R q → Bound x ≡ after_posted R s q

@@ -1,6 +1,6 @@
 -- A file that is taken, given to the check: none of 2 to 9 applies, one law for each.
 -- Assumes nothing.
-use Rattle.std.specs.Prelude.{ℕ, zero, suc, ◌+◌, ◌*◌, ◌≤◌, ◌<◌, ◌≡◌, refl, Bool, true, false, cond, ◌&&◌, leb, ltb, length, get_or, take, drop}
+use Rattle.std.specs.Prelude.{ℕ, zero, suc, ◌+◌, ◌*◌, ◌≤◌, ◌<◌, ◌≡◌, refl, Bool, true, false, cond, ◌&&◌, leb, ltb, length, get_or, take, drop, Ok, Err}
 use Rattle.std.proofs.Common.{sym, ◌∙◌, le_of_suc-le-suc, not-suc-le-zero, suc-mul, zero-mul, arith, ltb-true, le-ltb}
 use Rattle.std.proofs.Math.Path.{ap, subst}
 use mathlib.Core.List.{List}
@@ -8,20 +8,18 @@ use Rattle.std.proofs.lemmas.Bool.{lt-leb}
 use Rattle.std.proofs.Math.Seq.{take_at}
 use Rattle.cell.specs.Limits.{edition}
 use Rattle.cell.specs.TableLaws.{HasForm, form_of_good}
-use Rattle.cell.specs.declared.Formed.{Formed}
 use Rattle.recording.specs.declared.Certificate.{Certificate}
 use Rattle.recording.specs.declared.Seat.{Seat}
 use Rattle.recording.specs.Check.{looms_of, misfit_of, first_misfit, room_for, fault_of}
 use Rattle.recording.specs.CheckLaws.{fault_looms, fault_none}
 use Rattle.recording.specs.Recording.{side_count}
-use Rattle.xdr.specs.declared.Field.{Field}
-use Rattle.xdr.specs.declared.Field.TheVariants.{Is, Not}
-use Rattle.xdr.specs.Field.{Passed, word_at, within, field_at}
+use Rattle.codes.specs.declared.Code.{Code}
+use Rattle.codes.specs.Codes.{refused_at}
+use Rattle.xdr.specs.Field.{Field, Passed, word_at, within, field_at}
 use Rattle.xdr.specs.FieldLaws.{then_both, run_taken, judged_taken}
 use Rattle.format.specs.declared.Plan.{Plan}
 use Rattle.format.specs.declared.Items.TheVariants.{Looms}
 use Rattle.format.proofs.AcceptedLaws.{Passes, limits, bounds, file_taken}
-use Rattle.format.specs.CodedLaws.{Coded, refused, verdict_coded}
 use Rattle.format.specs.Format.{item_at, seat_at, seats_at, sides_at, verdict_of}
 use Rattle.format.specs.Layout.{plan_of}
 use Rattle.order.specs.declared.Order.{Order}
@@ -53,9 +51,9 @@ looms_read s n p start = take_at (seats_at s n p) (drop n no_seats) n (seats_len
 seat_fits : (operations : ℕ) (s : List ℕ) (p : ℕ) → Passed (item_at (Looms operations) s p) → misfit_of operations (seat_at s p) ≡ false
 unfolding item_at
 seat_fits operations s p passed =
-    let fields = then_both (field_at (within 0 2) 8 s p) (field_at (within 0 operations) 8 s (p + 4)) passed in
-    let side = limits 0 2 8 s p fields.0 in
-    let operation = limits 0 operations 8 s (p + 4) fields.1 in
+    let fields = then_both (field_at (within 0 2) Code.Seat s p) (field_at (within 0 operations) Code.Seat s (p + 4)) passed in
+    let side = limits 0 2 Code.Seat s p fields.0 in
+    let operation = limits 0 operations Code.Seat s (p + 4) fields.1 in
     rw (le-ltb 1 (word_at s p) (omega (arith, side.1)), lt-leb operations (word_at s (p + 4)) operation.1)
 
 no_misfit : (operations : ℕ) (s : List ℕ) (n p : ℕ) → ((j : ℕ) → j < n → Passed (item_at (Looms operations) s (p + j * 8)))
@@ -73,18 +71,15 @@ no_misfit operations s (suc n) p each =
 -- Both sides have a loom.
 both_true : (a b : Bool) → a && b ≡ true → (a ≡ true) × (b ≡ true)
 both_true true b h = (refl, h)
-both_true false b h = absurd (let z : ◌≡◌ {A = ℕ} 0 1 = cc in omega arith)
+both_true false b h = cc
 
 both_sides : (seats : List Seat) (p : ℕ) → Passed (sides_at seats p) → (0 < side_count 0 seats) × (0 < side_count 1 seats)
 unfolding sides_at
 both_sides seats p (v, taken) =
-    let tests = both_true (ltb 0 (side_count 0 seats)) (ltb 0 (side_count 1 seats)) (judged_taken true _ p 9 p v taken).good in
+    let tests = both_true (ltb 0 (side_count 0 seats)) (ltb 0 (side_count 1 seats)) (judged_taken true _ p Code.LacksSide p v taken).good in
     (ltb-true 0 (side_count 0 seats) tests.0, ltb-true 0 (side_count 1 seats) tests.1)
 
 -- ---- none of 2 to 9 and 40
-abbrev code_in : Formed → ℕ
-code_in f = f.code
-
 module _ (s : List ℕ) (passes : Passes edition s (plan_of s)) where
   abbrev P : Plan
   P = plan_of s
@@ -113,12 +108,11 @@ module _ (s : List ℕ) (passes : Passes edition s (plan_of s)) where
       }
 
   pub none_applies : (room : ℕ) → room_for P.looms ≤ room
-      → (fault_of table P.states P.operations (record { start = word_at s P.start; count = P.looms; seats = seats_of s P.looms (P.start + 8) }) room).code ≡ 0
+      → fault_of table P.states P.operations (record { start = word_at s P.start; count = P.looms; seats = seats_of s P.looms (P.start + 8) }) room ≡ Ok tt
   unfolding plan_of
   none_applies room enough =
-      ap code_in
-      (fault_looms table P.states P.operations c room (ap code_in (form_of_good table P.states P.operations form)) start_fits
-      ∙ fault_none P.operations c room count.0 (omega (arith, count.1)) fitted (λ none. omega (arith, some_A)) (λ none. omega (arith, some_B)) enough)
+      fault_looms table P.states P.operations c room (form_of_good table P.states P.operations form) start_fits
+      ∙ fault_none P.operations c room count.0 (omega (arith, count.1)) fitted (λ none. omega (arith, some_A)) (λ none. omega (arith, some_B)) enough
     where
       c : Certificate
       c = record { start = word_at s P.start; count = P.looms; seats = seats_of s P.looms (P.start + 8) }
@@ -146,39 +140,30 @@ module _ (s : List ℕ) (passes : Passes edition s (plan_of s)) where
       some_B : 0 < side_count 1 (looms_of c)
       some_B = subst (λ (ls : List Seat). 0 < side_count 1 ls) (sym same) sides.1
 
--- A reading with code 0 is that of a file that is taken.
-reading_taken : (reading : Field) → Coded reading → (s : List ℕ) → (order_of s reading).code ≡ 0 → Passed reading
+-- A reading that gives an order is that of a file that is taken.
+reading_taken : (reading : Field) (s : List ℕ) (order : Order) → Ok order ≡ order_of s reading → Passed reading
 unfolding order_of
-reading_taken (Is v) coded s none = (v, refl)
-reading_taken (Not code p) (refused c q above) s none = absurd (let no : ⊥ = omega (arith, above, none) in no)
+reading_taken (Ok v) s order given = (v, refl)
+reading_taken (Err e) s order given = cc
 
 -- The verdict is given where the rooms suffice, and 40 where they don't.
-reading_coded : (s : List ℕ) (table schedule : ℕ) → Coded (reading_of edition s table schedule)
-unfolding reading_of
-reading_coded s table schedule = by (leb (table_room edition) table && leb edition.entries schedule)
-  where
-    by : (b : Bool) → Coded (cond b (verdict_of edition s) (Not 40 0))
-    by true = verdict_coded edition s
-    by false = refused 40 0 (omega arith)
-
 reading_passed : (s : List ℕ) (table schedule : ℕ) → Passed (reading_of edition s table schedule) → Passed (verdict_of edition s)
 unfolding reading_of
 reading_passed s table schedule passed = by (leb (table_room edition) table && leb edition.entries schedule) passed
   where
-    by : (b : Bool) → Passed (cond b (verdict_of edition s) (Not 40 0)) → Passed (verdict_of edition s)
+    by : (b : Bool) → Passed (cond b (verdict_of edition s) (Err (refused_at Code.NoRoom 0))) → Passed (verdict_of edition s)
     by true h = h
-    by false (v, h) = absurd (let z : ◌≡◌ {A = ℕ} 0 1 = cc in omega arith)
+    by false (v, h) = cc
 
 -- What was read, whatever the rooms held.
-module _ (s table schedule table' schedule' : List ℕ) (order : Order) (reads : ReadsTo edition s table schedule table' schedule' order)
-    (none : order.code ≡ 0) where
+module _ (s table schedule table' schedule' : List ℕ) (order : Order) (reads : ReadsTo edition s table schedule table' schedule' (Ok order)) where
   reading : Passed (reading_of edition s (length table) (length schedule))
-  reading =
-      reading_taken _ (reading_coded s (length table) (length schedule)) s (sym (ap (λ (o : Order). o.code) reads.order_is) ∙ none)
+  reading = reading_taken _ s order reads.order_is
 
   pub order_read : order ≡ accepted_of s (plan_of s)
   unfolding order_of
-  order_read = reads.order_is ∙ ap (order_of s) reading.1
+  order_read =
+      let e : Ok order ≡ order_of s (Ok reading.0) = reads.order_is ∙ ap (order_of s) reading.1 in cc
 
   table_read : take (plan_of s).entries table' ≡ words_at s (plan_of s).entries 12
   unfolding table_after
@@ -198,15 +183,15 @@ module _ (s table schedule table' schedule' : List ℕ) (order : Order) (reads :
   file_passes = file_taken edition s (plan_of s) (reading_passed s (length table) (length schedule) reading)
 
   pub reads_pass : (room : ℕ) → room_for order.count ≤ room
-      → (fault_of (take order.entries table') order.states order.operations
-      (record { start = order.start; count = order.count; seats = order.seats }) room).code ≡ 0
+      → fault_of (take order.entries table') order.states order.operations
+      (record { start = order.start; count = order.count; seats = order.seats }) room ≡ Ok tt
   unfolding accepted_of
   reads_pass room enough =
       subst (λ (o : Order). room_for o.count ≤ room
-      → (fault_of (take o.entries table') o.states o.operations (record { start = o.start; count = o.count; seats = o.seats }) room).code ≡ 0)
+      → fault_of (take o.entries table') o.states o.operations (record { start = o.start; count = o.count; seats = o.seats }) room ≡ Ok tt)
       (sym order_read)
       (λ fits.
-      subst (λ (t : List ℕ). (fault_of t (plan_of s).states (plan_of s).operations
-      (record { start = word_at s (plan_of s).start; count = (plan_of s).looms; seats = seats_of s (plan_of s).looms ((plan_of s).start + 8) }) room).code ≡ 0)
+      subst (λ (t : List ℕ). fault_of t (plan_of s).states (plan_of s).operations
+      (record { start = word_at s (plan_of s).start; count = (plan_of s).looms; seats = seats_of s (plan_of s).looms ((plan_of s).start + 8) }) room ≡ Ok tt)
       (sym table_read) (none_applies s file_passes room fits))
       enough

@@ -1,6 +1,6 @@
 -- A trimmed label is the label without its trailing spaces: only spaces are left off, and no space ends it.
 -- Assumes nothing.
-use Rattle.std.specs.Prelude.{ℕ, zero, suc, ◌-◌, ◌≤◌, ◌<◌, ◌≡◌, refl, Bool, true, false, cond, List, eqb, get_or}
+use Rattle.std.specs.Prelude.{ℕ, zero, suc, ◌+◌, ◌-◌, ◌≤◌, ◌<◌, ◌≡◌, refl, Bool, true, false, cond, List, eqb, get_or}
 use Rattle.std.proofs.Common.{eq-or-lt_of_le, le_of_suc-le-suc, arith, sym, ap, ◌∙◌, ⊎_elim, eq-eqb, ne_eqb, eqb-true}
 use Rattle.std.proofs.lemmas.Bool.{eqb-false}
 use Rattle.order.specs.Label.{space, trimmed_of, by_side}
@@ -25,6 +25,21 @@ pub trimmed_none : (s : List ℕ) (n : ℕ) → n ≤ 0 → trimmed_of s n ≡ 0
 unfolding trimmed_of
 trimmed_none s zero h = refl
 trimmed_none s (suc k) h = absurd (omega arith)
+
+-- What is left ends at the last byte that isn't a space; nothing is left of spaces alone.
+pub trimmed_at : (s : List ℕ) (n k : ℕ) → k < n → (get_or s k 0 ≡ space → ⊥) → ((j : ℕ) → k < j → j < n → get_or s j 0 ≡ space)
+    → trimmed_of s n ≡ k + 1
+unfolding trimmed_of
+trimmed_at s zero k l here past = absurd (omega arith)
+trimmed_at s (suc n) k l here past =
+    ⊎_elim (λ (e : k ≡ n). rw (ne_eqb (get_or s n 0) space (rw e at here)) (omega arith))
+    (λ (b : k < n). rw (eq-eqb (get_or s n 0) space (past n b (omega arith))) (trimmed_at s n k b here (λ j m u. past j m (omega arith))))
+    (eq-or-lt_of_le (le_of_suc-le-suc l))
+
+pub trimmed_all : (s : List ℕ) (n : ℕ) → ((j : ℕ) → j < n → get_or s j 0 ≡ space) → trimmed_of s n ≡ 0
+unfolding trimmed_of
+trimmed_all s zero each = refl
+trimmed_all s (suc n) each = rw (eq-eqb (get_or s n 0) space (each n (omega arith))) (trimmed_all s n (λ j l. each j (omega arith)))
 
 -- By the last of suc k bytes: a space, or not.
 module _ (s : List ℕ) (k : ℕ) where

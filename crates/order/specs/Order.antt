@@ -1,12 +1,14 @@
 -- What reading an order file gives: document 01, "The order file" and "Codes and their order".
 -- Assumes nothing.
-use Rattle.std.specs.Prelude.{ℕ, zero, suc, ◌+◌, ◌*◌, ◌≡◌, cond, ◌&&◌, List, [], ◌∷◌, ◌++◌, leb, length, drop, replicate}
+use Rattle.std.specs.Prelude.{ℕ, zero, suc, ◌+◌, ◌*◌, ◌≡◌, cond, ◌&&◌, List, [], ◌∷◌, ◌++◌, leb, length, drop, replicate, Result, Ok, Err}
 use Rattle.cell.specs.Limits.{Limits, edition}
 use Rattle.recording.specs.Recording.{empty_seat}
 use Rattle.recording.specs.declared.Seat.{Seat}
-use Rattle.xdr.specs.declared.Field.{Field}
-use Rattle.xdr.specs.declared.Field.TheVariants.{Is, Not}
-use Rattle.xdr.specs.Field.{word_at}
+use Rattle.recording.specs.declared.Certificate.{Certificate}
+use Rattle.codes.specs.declared.Code.TheVariants.{NoRoom}
+use Rattle.codes.specs.declared.Refusal.{Refusal}
+use Rattle.codes.specs.Codes.{refused_at}
+use Rattle.xdr.specs.Field.{Field, word_at}
 use Rattle.order.specs.declared.Order.{Order}
 use Rattle.order.specs.declared.Piece.{Piece}
 use Rattle.format.specs.declared.Plan.{Plan}
@@ -19,7 +21,7 @@ table_room L = L.states * L.operations
 
 -- "Reading: 40 first (...), then the fields in file order"; "for 40, zero".
 unfoldable pub reading_of : Limits → List ℕ → ℕ → ℕ → Field
-reading_of L s table schedule = cond (leb (table_room L) table && leb L.entries schedule) (verdict_of L s) (Not 40 0)
+reading_of L s table schedule = cond (leb (table_room L) table && leb L.entries schedule) (verdict_of L s) (Err (refused_at NoRoom 0))
 
 -- The words of n items of four bytes, from p on.
 unfoldable pub words_at : List ℕ → ℕ → ℕ → List ℕ
@@ -38,54 +40,60 @@ seats_of s n p = seats_at s n p ++ drop n no_seats
 abbrev pub no_piece : Piece
 no_piece = record { number = 0; at = 0; length = 0 }
 
--- "A refused reading gives its code and place, all else zero."
-abbrev pub refused_of : ℕ → ℕ → Order
-refused_of code place = record {
-  code = code;
-  place = place;
+-- An order of which all is zero.
+abbrev pub zero_order : Order
+zero_order = record {
   states = 0;
   operations = 0;
   entries = 0;
   start = 0;
   count = 0;
   seats = no_seats;
-  a = no_piece;
-  b = no_piece;
+  pieces = record { a = no_piece; b = no_piece };
   schedule = 0;
 }
+
+-- The certificate of an order.
+abbrev pub certificate_in : Order → Certificate
+certificate_in order = record { start = order.start; count = order.count; seats = order.seats }
+
+-- "A refused reading gives its code and place, all else zero": the order of a reading that is written out as numbers.
+abbrev pub order_or_zeros : Result Order Refusal → Order
+order_or_zeros (Ok order) = order
+order_or_zeros (Err e) = zero_order
 
 -- The order of a file that isn't refused. A label is given by where its bytes lie in the file.
 unfoldable pub accepted_of : List ℕ → Plan → Order
 accepted_of s P = record {
-  code = 0;
-  place = 0;
   states = P.states;
   operations = P.operations;
   entries = P.entries;
   start = word_at s P.start;
   count = P.looms;
   seats = seats_of s P.looms (P.start + 8);
-  a = record { number = word_at s P.numbers; at = P.numbers + 12; length = P.first };
-  b = record { number = word_at s (P.numbers + 4); at = P.rest + 4; length = P.second };
+  pieces = record {
+    a = record { number = word_at s P.numbers; at = P.numbers + 12; length = P.first };
+    b = record { number = word_at s (P.numbers + 4); at = P.rest + 4; length = P.second };
+  };
   schedule = P.acts;
 }
 
 -- What a reading returns.
-unfoldable pub order_of : List ℕ → Field → Order
-order_of s (Is v) = accepted_of s (plan_of s)
-order_of s (Not code place) = refused_of code place
+unfoldable pub order_of : List ℕ → Field → Result Order Refusal
+order_of s (Ok v) = Ok (accepted_of s (plan_of s))
+order_of s (Err e) = Err e
 
 -- What the two rooms hold afterwards: "a refusal writes nothing to lent memory", "room beyond the items read stays as it was".
 unfoldable pub table_after : List ℕ → List ℕ → Field → List ℕ
-table_after s room (Is v) = words_at s (plan_of s).entries 12 ++ drop (plan_of s).entries room
-table_after s room (Not code place) = room
+table_after s room (Ok v) = words_at s (plan_of s).entries 12 ++ drop (plan_of s).entries room
+table_after s room (Err e) = room
 
 unfoldable pub schedule_after : List ℕ → List ℕ → Field → List ℕ
-schedule_after s room (Is v) = words_at s (plan_of s).acts ((plan_of s).schedule + 4) ++ drop (plan_of s).acts room
-schedule_after s room (Not code place) = room
+schedule_after s room (Ok v) = words_at s (plan_of s).acts ((plan_of s).schedule + 4) ++ drop (plan_of s).acts room
+schedule_after s room (Err e) = room
 
 -- A reading of file s: what it returns, and what the two rooms hold afterwards.
-pub record ReadsTo (L : Limits) (s table schedule table' schedule' : List ℕ) (order : Order) : Type 0 where
+pub record ReadsTo (L : Limits) (s table schedule table' schedule' : List ℕ) (order : Result Order Refusal) : Type 0 where
   pub order_is : order ≡ order_of s (reading_of L s (length table) (length schedule))
   pub table_is : table' ≡ table_after s table (reading_of L s (length table) (length schedule))
   pub schedule_is : schedule' ≡ schedule_after s schedule (reading_of L s (length table) (length schedule))

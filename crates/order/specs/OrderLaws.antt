@@ -3,15 +3,18 @@
 use Prim.Native.Nat.{ℕ, zero, suc, ◌+◌, ◌-◌, ◌*◌, ◌%◌, ◌≤◌, ◌<◌}
 use Rattle.std.proofs.Common.{zero-mul, add-zero, add-one, sym, ap, ◌∙◌, append-nil, length-set, take-append-drop, take-suc-set, drop-set-lt, drop-drop}
 use native.Mathlib.Omega.{arith}
-use Rattle.std.specs.Prelude.{◌≡◌, refl, List, [], ◌∷◌, ◌++◌, length, take, drop, set}
+use Rattle.std.specs.Prelude.{◌≡◌, refl, List, [], ◌∷◌, ◌++◌, length, take, drop, set, Ok, Err}
+use Rattle.std.proofs.lemmas.List.{drop_all}
 use Rattle.std.proofs.Math.Seq.{append_snoc}
 use Rattle.xdr.specs.Field.{word_at}
 use borrow.Author.Tests.{le-leb, lt-leb}
 use Rattle.cell.specs.Limits.{Limits}
-use Rattle.xdr.specs.declared.Field.TheVariants.{Is, Not}
+use Rattle.codes.specs.declared.Code.TheVariants.{NoRoom}
+use Rattle.codes.specs.declared.Refusal.{Refusal}
+use Rattle.codes.specs.Codes.{refused_at}
 use Rattle.format.specs.Layout.{plan_of}
 use Rattle.format.specs.Format.{seat_at, seats_at, verdict_of}
-use Rattle.order.specs.Order.{table_room, reading_of, words_at, refused_of, accepted_of, order_of, table_after, schedule_after, ReadsTo}
+use Rattle.order.specs.Order.{table_room, reading_of, words_at, accepted_of, order_of, table_after, schedule_after, ReadsTo}
 
 -- The low bytes of n words, from p on.
 unfoldable pub lows_at : List ℕ → ℕ → ℕ → List ℕ
@@ -43,6 +46,11 @@ module _ {A : Type 0} (before whole : List A) where
       let front : take n room ≡ whole = sym (append-nil (take n room)) ∙ ap (λ (l : List A). take n room ++ l) (sym e) ∙ f.front in
       sym (take-append-drop n room) ∙ ap (λ (l : List A). l ++ drop n room) front ∙ ap (λ (l : List A). whole ++ l) f.beyond
 
+  -- filled to its end
+  pub filling_whole : (n : ℕ) (rest room : List A) → length before ≤ n → rest ≡ [] → Filling before whole n rest room → room ≡ whole
+  filling_whole n rest room l e f =
+      filling_ends n rest room e f ∙ ap (λ (xs : List A). whole ++ xs) (drop_all n before l) ∙ append-nil whole
+
 -- The items that are left begin with the one at hand; past the last none are left.
 module _ (s : List ℕ) (count i p : ℕ) where
   pub lows_next : i < count → lows_at s (count - i) p ≡ word_at s p % 256 ∷ lows_at s (count - (i + 1)) (p + 4)
@@ -73,11 +81,11 @@ words_low s (suc k) p h =
 
 -- The rooms are looked at first: a short one gives 40, else the file decides.
 module _ (L : Limits) (s : List ℕ) (table schedule : ℕ) where
-  pub short_table : table < table_room L → reading_of L s table schedule ≡ Not 40 0
+  pub short_table : table < table_room L → reading_of L s table schedule ≡ Err (refused_at NoRoom 0)
   unfolding reading_of
   short_table h = simp (lt-leb (table_room L) table h)
 
-  pub short_schedule : table_room L ≤ table → schedule < L.entries → reading_of L s table schedule ≡ Not 40 0
+  pub short_schedule : table_room L ≤ table → schedule < L.entries → reading_of L s table schedule ≡ Err (refused_at NoRoom 0)
   unfolding reading_of
   short_schedule t h = simp (le-leb (table_room L) table t, lt-leb L.entries schedule h)
 
@@ -87,15 +95,15 @@ module _ (L : Limits) (s : List ℕ) (table schedule : ℕ) where
 
 -- A refused reading, and one that isn't.
 module _ (L : Limits) (s table schedule : List ℕ) where
-  pub refused_reads : (code place : ℕ) → reading_of L s (length table) (length schedule) ≡ Not code place
-      → ReadsTo L s table schedule table schedule (refused_of code place)
+  pub refused_reads : (e : Refusal) → reading_of L s (length table) (length schedule) ≡ Err e
+      → ReadsTo L s table schedule table schedule (Err e)
   unfolding order_of table_after schedule_after
-  refused_reads code place h = record { order_is = rw h; table_is = rw h; schedule_is = rw h }
+  refused_reads e h = record { order_is = rw h; table_is = rw h; schedule_is = rw h }
 
-  pub accepted_reads : (v : ℕ) → reading_of L s (length table) (length schedule) ≡ Is v
+  pub accepted_reads : (v : ℕ) → reading_of L s (length table) (length schedule) ≡ Ok v
       → ReadsTo L s table schedule
       (words_at s (plan_of s).entries 12 ++ drop (plan_of s).entries table)
       (words_at s (plan_of s).acts ((plan_of s).schedule + 4) ++ drop (plan_of s).acts schedule)
-      (accepted_of s (plan_of s))
+      (Ok (accepted_of s (plan_of s)))
   unfolding order_of table_after schedule_after
   accepted_reads v h = record { order_is = rw h; table_is = rw h; schedule_is = rw h }

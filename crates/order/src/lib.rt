@@ -1,63 +1,66 @@
 // An order file read into a record and two lent rooms, and the labels of the two sides.
 #![tactic(auto)]
 
-ghost use Rattle.std.specs.Prelude.{◌≡◌, ◌+◌, ◌*◌, ◌%◌, ◌≤◌, ◌<◌, ◌^◌, ◌++◌, length, drop};
+ghost use Rattle.std.specs.Prelude.{◌≡◌, ◌+◌, ◌*◌, ◌≤◌, ◌<◌, ◌^◌, length};
 ghost use Rattle.cell.specs.Limits.{edition};
-ghost use Rattle.xdr.specs.Field.{word_at};
-ghost use Rattle.format.specs.Layout.{Small};
-ghost use Rattle.order.specs.Order.{seats_of, refused_of, accepted_of, ReadsTo};
+ghost use Rattle.order.specs.Order.{seats_of, ReadsTo};
 ghost use Rattle.order.specs.OrderLaws.{lows_at};
-ghost use Rattle.order.specs.Label.{trimmed_of, LabelOf};
+ghost use Rattle.order.specs.Label.{trim_of, LabelOf};
 
-use format::Plan;
-use recording::Seat;
-use xdr::Field;
+use codes::{Code, Refusal};
+use recording::{Certificate, Seat};
+use sides::Pair;
 
 // The most entries that a table has.
 pub const TABLE: usize = cell::STATES * cell::OPERATIONS;
 
-// A side's piece: its number, and where its label's bytes lie in the file.
-#[derive(Clone, Copy)]
+// A side's piece: its number, and where its label's bytes lie in the file: a place and a length, as C has them, so that no order holds a
+// loan.
+#[derive(Clone, Copy, Debug, PartialEq, Eq)]
 pub struct Piece {
     pub number: u32,
     pub at: usize,
     pub length: usize,
 }
 
-// What a reading gives: its code and place, and for code 0 the order. The table's entries and the schedule's are in the lent rooms.
-#[derive(Clone, Copy)]
+// The order that a reading gives. The table's entries and the schedule's are in the lent rooms; eight seats with a count, as in a
+// certificate.
+#[derive(Clone, Copy, Debug, PartialEq, Eq)]
 pub struct Order {
-    pub code: u8,
-    pub place: usize,
     pub states: usize,
     pub operations: usize,
     pub entries: usize,
     pub start: usize,
     pub count: usize,
     pub seats: [Seat; 8],
-    pub a: Piece,
-    pub b: Piece,
+    pub pieces: Pair<Piece>,
     pub schedule: usize,
 }
 
-// The low byte of a word, which an entry within its limits is.
-fn low(value: usize) -> u8
-    ensures { result ≡ value % 256 }
-{
-    (value % 256) as u8
+// The certificate of an order.
+impl From<Order> for Certificate {
+    ghost use Rattle.std.specs.Prelude.{◌≡◌};
+    ghost use Rattle.order.specs.Order.{certificate_in};
+
+    ghost from_gives = { λ order certificate. certificate ≡ certificate_in order };
+
+    fn from(order: Order) -> Certificate {
+        let seats = order.seats;
+        Certificate {
+            start: order.start,
+            count: order.count,
+            seats,
+        }
+    }
 }
 
-// `count` words from `at` on, put into the beginning of a room.
-fn fill(file: &[u8], at: usize, count: usize, room: &mut [u8])
-    requires { (count ≤ length room.old) × (at + 4 * count < 2 ^ 64) }
-    ensures { room.new ≡ lows_at file.now count at ++ drop count room.old }
+// The words from `at` on, put into a room: their low bytes, which an entry within its limits is (a TryFrom would ask again).
+fn fill(file: &[u8], at: usize, room: &mut [u8])
+    requires { at + 4 * length room.old < 2 ^ 64 }
+    ensures { room.new ≡ lows_at file.now (length room.old) at }
 {
-    let mut p = at;
-    let mut i = 0;
-    while i < count {
-        room[i] = low(xdr::word_at(file, p));
-        p += 4;
-        i += 1;
+    for (i, entry) in room.iter_mut().enumerate() {
+        *entry = (xdr::word_at(file, at + 4 * i) % 256) as u8;
     }
 }
 
@@ -71,87 +74,17 @@ fn seats(file: &[u8], at: usize, count: usize) -> [Seat; 8]
         operation: 0,
     };
     let mut seats = [empty; 8];
-    let mut p = at;
-    let mut i = 0;
-    while i < count {
-        seats[i] = Seat {
-            side: xdr::word_at(file, p),
-            operation: xdr::word_at(file, p + 4),
+    for (i, seat) in seats[..count].iter_mut().enumerate() {
+        *seat = Seat {
+            side: xdr::word_at(file, at + 8 * i),
+            operation: xdr::word_at(file, at + 8 * i + 4),
         };
-        p += 8;
-        i += 1;
     }
     seats
 }
 
-// A refused reading: its code and place, all else zero.
-fn refused(code: u8, place: usize) -> Order
-    ensures { result ≡ refused_of code place }
-{
-    let empty = Seat {
-        side: 0,
-        operation: 0,
-    };
-    let none = Piece {
-        number: 0,
-        at: 0,
-        length: 0,
-    };
-    Order {
-        code,
-        place,
-        states: 0,
-        operations: 0,
-        entries: 0,
-        start: 0,
-        count: 0,
-        seats: [empty; 8],
-        a: none,
-        b: none,
-        schedule: 0,
-    }
-}
-
-// The piece number at a position.
-fn number_at(file: &[u8], at: usize) -> u32
-    ensures { result ≡ word_at file.now at }
-{
-    xdr::word_at(file, at) as u32
-}
-
-// The order of a file that isn't refused, by its plan.
-fn accepted(file: &[u8], plan: Plan) -> Order
-    requires { Small plan × (plan.looms ≤ edition.looms) }
-    ensures { result ≡ accepted_of file.now plan }
-{
-    let a = Piece {
-        number: number_at(file, plan.numbers),
-        at: plan.numbers + 12,
-        length: plan.first,
-    };
-    let b = Piece {
-        number: number_at(file, plan.numbers + 4),
-        at: plan.rest + 4,
-        length: plan.second,
-    };
-    let seats = seats(file, plan.start + 8, plan.looms);
-    Order {
-        code: 0,
-        place: 0,
-        states: plan.states,
-        operations: plan.operations,
-        entries: plan.entries,
-        start: xdr::word_at(file, plan.start),
-        count: plan.looms,
-        seats,
-        a,
-        b,
-        schedule: plan.acts,
-    }
-}
-
 // Reads an order file. The rooms take the table's entries and the schedule's; a refusal leaves both as they were.
-pub fn read(file: &[u8], table: &mut [u8], schedule: &mut [u8]) -> Order
+pub fn read(file: &[u8], table: &mut [u8], schedule: &mut [u8]) -> Result<Order, Refusal>
     ensures { ReadsTo
         edition
         file.now
@@ -161,38 +94,45 @@ pub fn read(file: &[u8], table: &mut [u8], schedule: &mut [u8]) -> Order
         schedule.new
         result }
 {
-    if table.len() < TABLE {
-        return refused(40, 0);
+    if table.len() < TABLE || schedule.len() < cell::ENTRIES {
+        return Err(Code::NoRoom.at(0));
     }
-    if schedule.len() < cell::ENTRIES {
-        return refused(40, 0);
-    }
-    let judged = format::judge(file);
-    let verdict = judged.verdict;
-    match verdict {
-        Field::Is(_) => {}
-        Field::Not(code, place) => {
-            return refused(code, place);
-        }
-    }
-    let plan = judged.plan;
-    fill(file, 12, plan.entries, table);
-    fill(file, plan.schedule + 4, plan.acts, schedule);
-    accepted(file, plan)
+    let plan = format::judge(file)?;
+    fill(file, 12, &mut table[..plan.entries]);
+    fill(file, plan.schedule + 4, &mut schedule[..plan.acts]);
+    Ok(Order {
+        states: plan.states,
+        operations: plan.operations,
+        entries: plan.entries,
+        start: xdr::word_at(file, plan.start),
+        count: plan.looms,
+        seats: seats(file, plan.start + 8, plan.looms),
+        // Casts: a word fits in 32 bits, which is proved.
+        pieces: Pair {
+            a: Piece {
+                number: xdr::word_at(file, plan.numbers) as u32,
+                at: plan.numbers + 12,
+                length: plan.first,
+            },
+            b: Piece {
+                number: xdr::word_at(file, plan.numbers + 4) as u32,
+                at: plan.rest + 4,
+                length: plan.second,
+            },
+        },
+        schedule: plan.acts,
+    })
 }
 
-// How many bytes of a label are left without its trailing spaces.
-fn trimmed(label: &[u8]) -> usize
-    ensures { (result ≡ trimmed_of label.now (length label.now)) × (result ≤ length label.now) }
+// A label without its trailing spaces: a part of its own bytes.
+fn trimmed(label: &[u8]) -> &[u8]
+    ensures bytes { result.now ≡ trim_of label.now }
+    ensures place { result.ref_ptr ≡ label.entry.ref_ptr }
 {
-    let mut n = label.len();
-    while 0 < n {
-        if label[n - 1] != 32 {
-            return n;
-        }
-        n -= 1;
+    match label.iter().rposition(|&byte| byte != b' ') {
+        Some(last) => &label[..=last],
+        None => &label[..0],
     }
-    n
 }
 
 // The label of side 0 (A) or 1 (B) without its trailing spaces: a part of the caller's own bytes. Any other side number gives the empty
@@ -200,13 +140,9 @@ fn trimmed(label: &[u8]) -> usize
 pub fn label<'a>(a: &'a [u8], b: &'a [u8], side: usize) -> &'a [u8]
     ensures { LabelOf a.entry b.entry side result }
 {
-    if side == 0 {
-        let n = trimmed(a);
-        return &a[..n];
+    match side {
+        0 => trimmed(a),
+        1 => trimmed(b),
+        _ => &a[..0],
     }
-    if side == 1 {
-        let n = trimmed(b);
-        return &b[..n];
-    }
-    &a[..0]
 }

@@ -1,70 +1,65 @@
 -- Laws of a reader: the fields, runs, parts and end of a file, as `xdr` defines them and `order` reads them, are what the reader hands out
 -- and the test of it.
 -- Assumes nothing.
-use Rattle.std.specs.Prelude.{ℕ, zero, suc, ◌+◌, ◌-◌, ◌≤◌, ◌≡◌, refl, Bool, true, false, cond, ◌&&◌, List, eqb, leb, length, get_or, take, drop}
+use Rattle.std.specs.Prelude.{ℕ, zero, suc, ◌+◌, ◌-◌, ◌≤◌, ◌≡◌, refl, Ok, Err, Bool, true, false, cond, ◌&&◌, List, eqb, leb, length, get_or, take, drop}
 use Rattle.std.proofs.Common.{add-zero, arith, ap, ◌∙◌, get_or-take, get_or-drop, leb-true, leb-false, eq-eqb, ne_eqb}
-use Rattle.xdr.specs.declared.Field.{Field}
-use Rattle.xdr.specs.declared.Field.TheVariants.{Is, Not}
-use Rattle.xdr.specs.Field.{word_fits, word_at, judged, field_at, run, end_at}
+use Rattle.codes.specs.declared.Code.{Code}
+use Rattle.codes.specs.declared.Code.TheVariants.{FileEnds}
+use Rattle.codes.specs.Codes.{refused_at}
+use Rattle.xdr.specs.Field.{Field, anything, word_fits, word_at, judged, field_at, run, end_at}
 use Rattle.xdr.specs.Opaque.{padded, all, opaque_at}
-use Rattle.xdr.proofs.OpaqueLaws.{opaque_taken}
-use Rattle.reader.specs.Reader.{anything, left_of, end_of, read_of}
+use Rattle.xdr.proofs.OpaqueLaws.{all_anything, opaque_taken}
+use Rattle.reader.specs.Reader.{left_of, end_of, read_of}
 
 -- What is handed out at p, with a test of its own: refused with the code at p where it does not pass.
-abbrev pub tested : Bool → ℕ → ℕ → Field → Field
-tested passes code p (Is v) = cond passes (Is v) (Not code p)
-tested passes code p (Not c q) = Not c q
+abbrev pub tested : Bool → Code → ℕ → Field → Field
+tested passes code p (Ok v) = cond passes (Ok v) (Err (refused_at code p))
+tested passes code p (Err e) = Err e
 
 -- The same with a test of the value that is handed out.
-abbrev pub tested_by : (ℕ → Bool) → ℕ → ℕ → Field → Field
-tested_by ok code p (Is v) = cond (ok v) (Is v) (Not code p)
-tested_by ok code p (Not c q) = Not c q
+abbrev pub tested_by : (ℕ → Bool) → Code → ℕ → Field → Field
+tested_by ok code p (Ok v) = cond (ok v) (Ok v) (Err (refused_at code p))
+tested_by ok code p (Err e) = Err e
 
 -- A judged field is tested after it is handed out.
-tested_is_judged : (reaches passes : Bool) (v code p : ℕ) → tested passes code p (judged reaches true v 1 p) ≡ judged reaches passes v code p
+tested_is_judged : (reaches passes : Bool) (v : ℕ) (code : Code) (p : ℕ) → tested passes code p (judged reaches true v FileEnds p) ≡ judged reaches passes v code p
 tested_is_judged true true v code p = refl
 tested_is_judged true false v code p = refl
 tested_is_judged false passes v code p = refl
 
-tested_by_value : (ok : ℕ → Bool) (reaches : Bool) (v code p : ℕ) → tested_by ok code p (judged reaches true v 1 p) ≡ judged reaches (ok v) v code p
+tested_by_value : (ok : ℕ → Bool) (reaches : Bool) (v : ℕ) (code : Code) (p : ℕ) → tested_by ok code p (judged reaches true v FileEnds p) ≡ judged reaches (ok v) v code p
 tested_by_value ok true v code p = refl
 tested_by_value ok false v code p = refl
 
--- Every byte passes the test that everything passes.
-pub all_anything : (s : List ℕ) (n p : ℕ) → all anything s n p ≡ true
-unfolding all
-all_anything s zero p = refl
-all_anything s (suc n) p = all_anything s n (p + 1)
-
 -- A word read at p, and tested, is the file's field at p.
-pub word_is_field : (ok : ℕ → Bool) (code : ℕ) (s : List ℕ) (n p : ℕ) → tested_by ok code p (read_of s n p).word ≡ field_at ok code s p
+pub word_is_field : (ok : ℕ → Bool) (code : Code) (s : List ℕ) (n p : ℕ) → tested_by ok code p (read_of s n p).word ≡ field_at ok code s p
 unfolding field_at
 word_is_field ok code s n p = tested_by_value ok (word_fits s p) (word_at s p) code p
 
 -- So words read one after another are the file's run of fields.
-pub words_are_run : (ok : ℕ → Bool) (code : ℕ) (s : List ℕ) (n width count p : ℕ)
+pub words_are_run : (ok : ℕ → Bool) (code : Code) (s : List ℕ) (n width count p : ℕ)
     → run (λ (q : ℕ). tested_by ok code q (read_of s n q).word) width count p ≡ run (field_at ok code s) width count p
 words_are_run ok code s n width count p = λ i. run (λ (q : ℕ). word_is_field ok code s n q i) width count p
 
 -- A part read at p, its bytes tested, is the file's opaque part at p.
-pub part_is_opaque : (ok : ℕ → Bool) (code : ℕ) (s : List ℕ) (n p : ℕ) → tested (all ok s n p) code p (read_of s n p).end ≡ opaque_at ok code s n p
+pub part_is_opaque : (ok : ℕ → Bool) (code : Code) (s : List ℕ) (n p : ℕ) → tested (all ok s n p) code p (read_of s n p).end ≡ opaque_at ok code s n p
 unfolding opaque_at
 part_is_opaque ok code s n p =
-    ap (λ (t : Bool). tested (all ok s n p) code p (judged (leb (p + padded n) (length s)) t (p + padded n) 1 p)) (all_anything s n p)
+    ap (λ (t : Bool). tested (all ok s n p) code p (judged (leb (p + padded n) (length s)) t (p + padded n) FileEnds p)) (all_anything s n p)
     ∙ tested_is_judged (leb (p + padded n) (length s)) (all ok s n p) (p + padded n) code p
 
 -- The file's end is where nothing is left.
-pub nothing_left_is_end : (code : ℕ) (s : List ℕ) (p : ℕ) → cond (eqb (left_of s p) 0) (Is p) (Not code p) ≡ end_at code s p
+pub nothing_left_is_end : (code : Code) (s : List ℕ) (p : ℕ) → cond (eqb (left_of s p) 0) (Ok p) (Err (refused_at code p)) ≡ end_at code s p
 unfolding end_at
 nothing_left_is_end code s p = go (leb (length s) p) refl
   where
-    go : (t : Bool) → leb (length s) p ≡ t → cond (eqb (left_of s p) 0) (Is p) (Not code p) ≡ cond (leb (length s) p) (Is p) (Not code p)
+    go : (t : Bool) → leb (length s) p ≡ t → cond (eqb (left_of s p) 0) (Ok p) (Err (refused_at code p)) ≡ cond (leb (length s) p) (Ok p) (Err (refused_at code p))
     go true e = let h = leb-true (length s) p e in let z : length s - p ≡ 0 = omega (arith, h) in simp (e, eq-eqb (length s - p) 0 z)
     go false e = let h = leb-false (length s) p e in let z : (length s - p ≡ 0 → ⊥) = λ w. omega (arith, h, w) in simp (e, ne_eqb (length s - p) 0 z)
 
 -- A part that is there lies within the file.
-pub part_inside : (s : List ℕ) (n p q : ℕ) → end_of s n p ≡ Is q → p + n ≤ length s
-part_inside s n p q h = omega (arith, leb-true (p + padded n) (length s) (opaque_taken anything 1 s n p q h).inside)
+pub part_inside : (s : List ℕ) (n p q : ℕ) → end_of s n p ≡ Ok q → p + n ≤ length s
+part_inside s n p q h = omega (arith, leb-true (p + padded n) (length s) (opaque_taken anything FileEnds s n p q h).inside)
 
 -- The bytes of the part that is handed out pass a test where the file's do.
 pub part_bytes : (ok : ℕ → Bool) (s : List ℕ) (n p : ℕ) → all ok (take n (drop p s)) n 0 ≡ all ok s n p

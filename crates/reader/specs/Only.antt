@@ -4,13 +4,13 @@
 use Rattle.std.specs.Prelude.{ℕ, ◌≡◌, List}
 use Rattle.std.proofs.Common.{sym, ◌∙◌}
 use Rattle.std.specs.Borrow.{Bor}
-use Rattle.xdr.specs.declared.Field.{Field}
+use Rattle.xdr.specs.Field.{Field}
 use Rattle.reader.specs.declared.Reader.{Reader}
 use Rattle.reader.specs.declared.Reading.{Reading}
 use Rattle.reader.specs.Reader.{standing, left_of, word_of, end_of, past_of, read_of, PartOf}
 
-pub only-reader_at : (file : Bor (List ℕ)) (at : ℕ) (r s : Reader) → r ≡ standing file at → s ≡ standing file at → r ≡ s
-only-reader_at file at r s p q = p ∙ sym q
+pub only-at : (file : Bor (List ℕ)) (at : ℕ) (r s : Reader) → r ≡ standing file at → s ≡ standing file at → r ≡ s
+only-at file at r s p q = p ∙ sym q
 
 module _ (d : Reader) where
   pub only-place : (r s : ℕ) → r ≡ d.at → s ≡ d.at → r ≡ s

@@ -1,11 +1,10 @@
 -- A reader of a lent file: document 01, "The order file". "A reader holds the lent file and its own position in it, and hands out one field
 -- after another."
 -- Assumes nothing.
-use Rattle.std.specs.Prelude.{ℕ, ◌+◌, ◌-◌, ◌≡◌, Bool, true, List, [], length, take, drop}
+use Rattle.std.specs.Prelude.{ℕ, ◌+◌, ◌-◌, ◌≡◌, List, [], length, take, drop, Ok, Err}
 use Rattle.std.specs.Borrow.{Bor}
-use Rattle.xdr.specs.declared.Field.{Field}
-use Rattle.xdr.specs.declared.Field.TheVariants.{Is, Not}
-use Rattle.xdr.specs.Field.{field_at}
+use Rattle.codes.specs.declared.Code.TheVariants.{FileEnds}
+use Rattle.xdr.specs.Field.{Field, anything, field_at}
 use Rattle.xdr.specs.Opaque.{opaque_at}
 use Rattle.reader.specs.declared.Reader.{Reader}
 use Rattle.reader.specs.declared.Reading.{Reading}
@@ -18,22 +17,18 @@ standing file p = record { file = file; at = p }
 abbrev pub left_of : List ℕ → ℕ → ℕ
 left_of s p = length s - p
 
--- The test that every value passes: the reader judges no field, it only hands it out.
-abbrev pub anything : ℕ → Bool
-anything v = true
-
--- The word at p; "1, the file ends before a field does", with the byte where it begins.
+-- The reader judges no field, it only hands it out. The word at p; "1, the file ends before a field does", with the byte where it begins.
 abbrev pub word_of : List ℕ → ℕ → Field
-word_of s p = field_at anything 1 s p
+word_of s p = field_at anything FileEnds s p
 
 -- Where the n bytes from p on end with their padding; 1 where the file ends before they do.
 abbrev pub end_of : List ℕ → ℕ → ℕ → Field
-end_of s n p = opaque_at anything 1 s n p
+end_of s n p = opaque_at anything FileEnds s n p
 
 -- The place past what is there, and where it is refused the place before it.
 abbrev pub after : Field → ℕ → ℕ
-after (Is next) p = next
-after (Not code place) p = p
+after (Ok next) p = next
+after (Err e) p = p
 
 -- The reader past n bytes and their padding.
 abbrev pub past_of : Reader → ℕ → Reader
@@ -41,8 +36,8 @@ past_of r n = standing r.file (after (end_of r.file.now n r.at) r.at)
 
 -- The first where what was asked for is there, else the second.
 abbrev pub where_there : {A : Type 0} → Field → A → A → A
-where_there (Is next) a b = a
-where_there (Not code place) a b = b
+where_there (Ok next) a b = a
+where_there (Err e) a b = b
 
 -- The part r of the n bytes from p on of the lent file: its bytes, and that they lie there in the file; where they are refused, the empty
 -- part at the file's beginning.

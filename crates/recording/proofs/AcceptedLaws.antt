@@ -1,24 +1,26 @@
 -- Past 2 to 9 and 40: what the check's codes, places and sets say, each by itself.
 -- Assumes nothing.
-use Rattle.std.specs.Prelude.{ℕ, ◌^◌, ◌<◌, ◌≡◌, ◌↔◌, ◌⊎◌, List}
+use Rattle.std.specs.Prelude.{ℕ, ◌^◌, ◌<◌, ◌≡◌, ◌↔◌, ◌⊎◌, Ok, Err, List}
 use Rattle.std.proofs.Common.{sym, ◌∙◌, lt_of_lt_of_le, pow_mono}
-use Rattle.std.proofs.Math.Path.{ap, subst}
+use Rattle.std.proofs.Math.Path.{refl, ap, subst}
 use Rattle.std.proofs.Math.Logic.{inl, inr, ⊎_elim}
-use Rattle.std.proofs.Math.Decide.{ℕ_discrete}
 use Rattle.std.specs.Int.Bits.{bit_and}
+use Rattle.codes.specs.declared.Code.TheVariants.{SharedState, ReturnsToA, ReturnsToB}
+use Rattle.codes.specs.Codes as codes
+use Rattle.codes.specs.Codes.{refused_at}
 use Rattle.sets.specs.Sets.{bit, size_of, lowest_of, word_bits}
 use Rattle.cell.specs.Table.{entry_of}
 use Rattle.recording.specs.declared.Certificate.{Certificate}
 use Rattle.recording.specs.declared.Judged.{Judged}
 use Rattle.recording.specs.AdmittedLaws.{Admitted, admitted, closed}
-use Rattle.recording.specs.Check.{looms_of, fault_of, set_by, verdict_of, judged_of, check_of}
+use Rattle.recording.specs.Check.{looms_of, RefusedFor, fault_of, set_by, verdict_of, judged_of, check_of}
 use Rattle.recording.specs.CheckLaws.{judged_refused, judged_past}
 use Rattle.recording.specs.Clauses.{InSetOf, SharedFirst, NoneShared, ReturnsTo, RecordingOf}
 use Rattle.recording.specs.Recording.{side_count}
 use Rattle.recording.proofs.SetLaws.{set_members, set_below}
-use Rattle.recording.proofs.VerdictLaws.{code_of, place_of, Verdict, Apart, Away, verdict_gives, verdict_says, says_shared, says_back_to_A, says_back_to_B, says_recorded, when_shared, when_back_to_A, when_back_to_B, when_recorded, lowest_shared}
+use Rattle.recording.proofs.VerdictLaws.{same_place, outcome_in, Verdict, Apart, Away, verdict_gives, verdict_says, says_shared, says_back_to_A, says_back_to_B, says_recorded, when_shared, when_back_to_A, when_back_to_B, when_recorded, lowest_shared}
 
-module _ (table : List ℕ) (states operations : ℕ) (c : Certificate) (room : ℕ) (past : (fault_of table states operations c room).code ≡ 0) where
+module _ (table : List ℕ) (states operations : ℕ) (c : Certificate) (room : ℕ) (past : fault_of table states operations c room ≡ Ok tt) where
   -- ---- the sets
   ok : Admitted table states operations c room
   ok = admitted table states operations c room past
@@ -50,21 +52,21 @@ module _ (table : List ℕ) (states operations : ℕ) (c : Certificate) (room : 
   verdict = judged_past table states operations c room past
 
   -- The sets are given whatever the code, and the sizes are those of Q_A and of Q_B.
-  pub sets_given : ((judged_of table states operations c room).a ≡ set_by table states c 0) × ((judged_of table states operations c room).b ≡ set_by table states c 1)
+  pub sets_given : ((judged_of table states operations c room).sets.a ≡ set_by table states c 0) × ((judged_of table states operations c room).sets.b ≡ set_by table states c 1)
   unfolding set_a set_b
   sets_given =
       let gives = verdict_gives c.start of_a of_b set_a set_b in
-      (ap (λ (j : Judged). j.a) verdict ∙ gives.0, ap (λ (j : Judged). j.b) verdict ∙ gives.1)
+      (ap (λ (j : Judged). j.sets.a) verdict ∙ gives.0, ap (λ (j : Judged). j.sets.b) verdict ∙ gives.1)
 
-  pub sizes_given : ((check_of table states operations c room).a ≡ size_of word_bits (set_by table states c 0))
-      × ((check_of table states operations c room).b ≡ size_of word_bits (set_by table states c 1))
+  pub sizes_given : ((check_of table states operations c room).sizes.a ≡ size_of word_bits (set_by table states c 0))
+      × ((check_of table states operations c room).sizes.b ≡ size_of word_bits (set_by table states c 1))
   unfolding check_of
   sizes_given = (ap (size_of word_bits) sets_given.0, ap (size_of word_bits) sets_given.1)
 
-  -- ---- the codes
-  says : Verdict c.start of_a of_b set_a set_b (judged_of table states operations c room).code
+  -- ---- the outcome
+  says : Verdict c.start of_a of_b set_a set_b (judged_of table states operations c room).outcome
   unfolding set_a
-  says = subst (Verdict c.start of_a of_b set_a set_b) (ap code_of (sym verdict)) (verdict_says c.start of_a of_b set_a set_b (set_small 0))
+  says = subst (Verdict c.start of_a of_b set_a set_b) (ap outcome_in (sym verdict)) (verdict_says c.start of_a of_b set_a set_b (set_small 0))
 
   apart : Apart set_a set_b ↔ NoneShared table states c
   unfolding set_a set_b
@@ -74,21 +76,21 @@ module _ (table : List ℕ) (states operations : ℕ) (c : Certificate) (room : 
   )
 
   -- 20 exactly when the first clause fails; its place is the lowest state that both sets have.
-  pub shared_refused : ((check_of table states operations c room).code ≡ 20) ↔ ((q : ℕ) × InSetOf table states c 0 q × InSetOf table states c 1 q)
+  pub shared_refused : RefusedFor SharedState (check_of table states operations c room).outcome ↔ ((q : ℕ) × InSetOf table states c 0 q × InSetOf table states c 1 q)
   unfolding check_of set_a set_b
   shared_refused = (
-    λ code. let shared = says_shared says code in (shared.0, (set_is_Q 0 shared.0).0 shared.1, (set_is_Q 1 shared.0).0 shared.2),
-    λ shared. ap code_of verdict ∙ ap code_of (when_shared c.start of_a of_b set_a set_b (shared.0, (set_is_Q 0 shared.0).1 shared.1, (set_is_Q 1 shared.0).1 shared.2)),
+    λ code. let shared = says_shared says code.1 in (shared.0, (set_is_Q 0 shared.0).0 shared.1, (set_is_Q 1 shared.0).0 shared.2),
+    λ shared. (lowest_of word_bits (bit_and set_a set_b), ap outcome_in verdict ∙ ap outcome_in (when_shared c.start of_a of_b set_a set_b (shared.0, (set_is_Q 0 shared.0).1 shared.1, (set_is_Q 1 shared.0).1 shared.2))),
   )
 
-  pub shared_place : (check_of table states operations c room).code ≡ 20 → SharedFirst table states c (check_of table states operations c room).place
+  pub shared_place : (place : ℕ) → (check_of table states operations c room).outcome ≡ Err (refused_at SharedState place) → SharedFirst table states c place
   unfolding check_of set_a set_b
-  shared_place code =
+  shared_place place code =
       let shared = says_shared says code in
       let least = lowest_shared c.start of_a of_b set_a set_b (set_small 0) shared in
-      let place : (judged_of table states operations c room).place ≡ lowest_of word_bits (bit_and set_a set_b) =
-      ap place_of (verdict ∙ when_shared c.start of_a of_b set_a set_b shared) in
-      subst (SharedFirst table states c) (sym place)
+      let lowest : place ≡ lowest_of word_bits (bit_and set_a set_b) =
+      same_place (sym code ∙ ap outcome_in (verdict ∙ when_shared c.start of_a of_b set_a set_b shared)) in
+      subst (SharedFirst table states c) (sym lowest)
       (record {
         in_A = (set_is_Q 0 (lowest_of word_bits (bit_and set_a set_b))).0 least.0;
         in_B = (set_is_Q 1 (lowest_of word_bits (bit_and set_a set_b))).0 least.1;
@@ -96,37 +98,41 @@ module _ (table : List ℕ) (states operations : ℕ) (c : Certificate) (room : 
       })
 
   -- 21 exactly when the first clause holds and the second fails; its place is the start.
-  pub returns_to_A : ((check_of table states operations c room).code ≡ 21) ↔ (NoneShared table states c × ReturnsTo table states c 0 1)
+  pub returns_to_A : RefusedFor ReturnsToA (check_of table states operations c room).outcome ↔ (NoneShared table states c × ReturnsTo table states c 0 1)
   unfolding check_of of_b set_a set_b
   returns_to_A = (
-    λ code. let found = says_back_to_A says code in (apart.0 found.0, ((set_is_Q 0 c.start).0 found.1.0, found.1.1)),
-    λ found. ap code_of verdict ∙ ap code_of (when_back_to_A c.start of_a of_b set_a set_b (apart.1 found.0) ((set_is_Q 0 c.start).1 found.1.0, found.1.1)),
+    λ code. let found = says_back_to_A says code.1 in (apart.0 found.0, ((set_is_Q 0 c.start).0 found.1.0, found.1.1)),
+    λ found. (c.start, ap outcome_in verdict ∙ ap outcome_in (when_back_to_A c.start of_a of_b set_a set_b (apart.1 found.0) ((set_is_Q 0 c.start).1 found.1.0, found.1.1))),
   )
 
-  pub returns_to_A_place : (check_of table states operations c room).code ≡ 21 → (check_of table states operations c room).place ≡ c.start
+  pub returns_to_A_place : (place : ℕ) → (check_of table states operations c room).outcome ≡ Err (refused_at ReturnsToA place) → place ≡ c.start
   unfolding check_of
-  returns_to_A_place code =
-      let found = says_back_to_A says code in ap place_of (verdict ∙ when_back_to_A c.start of_a of_b set_a set_b found.0 found.1)
+  returns_to_A_place place code =
+      let found = says_back_to_A says code in
+      same_place (sym code ∙ ap outcome_in (verdict ∙ when_back_to_A c.start of_a of_b set_a set_b found.0 found.1))
 
   -- 22 exactly when the first clause holds and the third fails; its place is the start.
-  pub returns_to_B : ((check_of table states operations c room).code ≡ 22) ↔ (NoneShared table states c × ReturnsTo table states c 1 0)
+  pub returns_to_B : RefusedFor ReturnsToB (check_of table states operations c room).outcome ↔ (NoneShared table states c × ReturnsTo table states c 1 0)
   unfolding check_of of_a set_a set_b
   returns_to_B = (
-    λ code. let found = says_back_to_B says code in (apart.0 found.0, ((set_is_Q 1 c.start).0 found.1.0, found.1.1)),
-    λ found. ap code_of verdict
-        ∙ ap code_of (when_back_to_B c.start of_a of_b set_a set_b (apart.1 found.0)
-        (inl (λ in_a. found.0 c.start ((set_is_Q 0 c.start).0 in_a) found.1.0))
-        ((set_is_Q 1 c.start).1 found.1.0, found.1.1)),
+    λ code. let found = says_back_to_B says code.1 in (apart.0 found.0, ((set_is_Q 1 c.start).0 found.1.0, found.1.1)),
+    λ found. (
+      c.start,
+      ap outcome_in verdict
+          ∙ ap outcome_in (when_back_to_B c.start of_a of_b set_a set_b (apart.1 found.0)
+          (inl (λ in_a. found.0 c.start ((set_is_Q 0 c.start).0 in_a) found.1.0))
+          ((set_is_Q 1 c.start).1 found.1.0, found.1.1)),
+    ),
   )
 
-  pub returns_to_B_place : (check_of table states operations c room).code ≡ 22 → (check_of table states operations c room).place ≡ c.start
+  pub returns_to_B_place : (place : ℕ) → (check_of table states operations c room).outcome ≡ Err (refused_at ReturnsToB place) → place ≡ c.start
   unfolding check_of
-  returns_to_B_place code =
+  returns_to_B_place place code =
       let found = says_back_to_B says code in
-      ap place_of (verdict ∙ when_back_to_B c.start of_a of_b set_a set_b found.0 (inl (λ in_a. found.0 c.start in_a found.1.0)) found.1)
+      same_place (sym code ∙ ap outcome_in (verdict ∙ when_back_to_B c.start of_a of_b set_a set_b found.0 (inl (λ in_a. found.0 c.start in_a found.1.0)) found.1))
 
   -- Accepted exactly when recording.
-  pub accepted : ((check_of table states operations c room).code ≡ 0) ↔ RecordingOf table states c
+  pub accepted : ((check_of table states operations c room).outcome ≡ Ok tt) ↔ RecordingOf table states c
   unfolding check_of of_a of_b set_a set_b
   accepted = (into, back)
     where
@@ -136,7 +142,7 @@ module _ (table : List ℕ) (states operations : ℕ) (c : Certificate) (room : 
         ⊎_elim (λ out. inl (λ there. out ((set_is_Q X c.start).0 there))) inr,
       )
 
-      into : (judged_of table states operations c room).code ≡ 0 → RecordingOf table states c
+      into : (judged_of table states operations c room).outcome ≡ Ok tt → RecordingOf table states c
       into code =
           let found = says_recorded says code in
           record {
@@ -147,17 +153,17 @@ module _ (table : List ℕ) (states operations : ℕ) (c : Certificate) (room : 
             start_and_B = (clause 1 (side_count 0 (looms_of c))).0 found.2;
           }
 
-      back : RecordingOf table states c → (judged_of table states operations c room).code ≡ 0
+      back : RecordingOf table states c → (judged_of table states operations c room).outcome ≡ Ok tt
       back r =
-          ap code_of verdict
-          ∙ ap code_of (when_recorded c.start of_a of_b set_a set_b (apart.1 r.apart) ((clause 0 (side_count 1 (looms_of c))).1 r.start_and_A)
+          ap outcome_in verdict
+          ∙ ap outcome_in (when_recorded c.start of_a of_b set_a set_b (apart.1 r.apart) ((clause 0 (side_count 1 (looms_of c))).1 r.start_and_A)
           ((clause 1 (side_count 0 (looms_of c))).1 r.start_and_B))
 
 -- Code 0 is given past 2 to 9 and 40 alone.
 pub past_faults : (table : List ℕ) (states operations : ℕ) (c : Certificate) (room : ℕ)
-    → (judged_of table states operations c room).code ≡ 0 → (fault_of table states operations c room).code ≡ 0
-past_faults table states operations c room code =
-    elim (ℕ_discrete (fault_of table states operations c room).code 0) [
-      | yes past ↦ past
-      | no refused ↦ sym (ap code_of (judged_refused table states operations c room refused)) ∙ code
-    ]
+    → (judged_of table states operations c room).outcome ≡ Ok tt → fault_of table states operations c room ≡ Ok tt
+past_faults table states operations c room none = go (fault_of table states operations c room) refl
+  where
+    go : (fault : codes.Verdict) → fault_of table states operations c room ≡ fault → fault_of table states operations c room ≡ Ok tt
+    go (Ok done) e = e
+    go (Err refusal) e = absurd (cc (judged_refused table states operations c room refusal e))

@@ -1,6 +1,6 @@
 -- The area after the check: document 01, "Cell and certificate", in the words of source document 003.
 -- Assumes nothing.
-use Rattle.std.specs.Prelude.{ℕ, ◌+◌, ◌^◌, ◌≤◌, ◌<◌, ◌≡◌, ◌↔◌, List, length, get_or}
+use Rattle.std.specs.Prelude.{ℕ, ◌+◌, ◌^◌, ◌≤◌, ◌<◌, ◌≡◌, ◌↔◌, Ok, List, length, get_or}
 use Rattle.sets.specs.Sets.{Member}
 use Rattle.cell.specs.Table.{entry_of}
 use Rattle.recording.specs.declared.Certificate.{Certificate}
@@ -20,7 +20,7 @@ pub record Holds (table : List ℕ) (states : ℕ) (c : Certificate) (area after
 
 -- Past 2 to 9 and 40 the area holds all of this, whatever the table, the certificate and the area before.
 pub area_holds : (table : List ℕ) (states operations : ℕ) (c : Certificate) (area : List ℕ)
-    → (fault_of table states operations c (length area)).code ≡ 0 → Holds table states c area (area_of table states operations c area)
+    → fault_of table states operations c (length area) ≡ Ok tt → Holds table states c area (area_of table states operations c area)
 area_holds table states operations c area past =
     record {
       words_of_A = laws.words_of_A table states operations c area past;

@@ -1,6 +1,6 @@
 -- Past 2 to 9 and 40: what each word of the area holds afterwards.
 -- Assumes nothing.
-use Rattle.std.specs.Prelude.{ℕ, ◌+◌, ◌-◌, ◌^◌, ◌≤◌, ◌<◌, ◌≡◌, ◌↔◌, List, ◌++◌, length, get_or, drop}
+use Rattle.std.specs.Prelude.{ℕ, ◌+◌, ◌-◌, ◌^◌, ◌≤◌, ◌<◌, ◌≡◌, ◌↔◌, Ok, List, ◌++◌, length, get_or, drop}
 use Rattle.std.proofs.Common.{sym, ap, subst, ◌∙◌, arith, length-append, length-drop, get_or-append-add, get_or-drop}
 use Rattle.std.proofs.Math.ListN.{get_or-append}
 use Rattle.sets.specs.Sets.{Member}
@@ -13,7 +13,7 @@ use Rattle.recording.proofs.SetLaws.{word_members}
 use Rattle.recording.specs.Words.{ReachedBy}
 use Rattle.recording.specs.WordsLaws.{length_filled, filled_at}
 
-module _ (table : List ℕ) (states operations : ℕ) (c : Certificate) (area : List ℕ) (past : (fault_of table states operations c (length area)).code ≡ 0) where
+module _ (table : List ℕ) (states operations : ℕ) (c : Certificate) (area : List ℕ) (past : fault_of table states operations c (length area) ≡ Ok tt) where
   abbrev after : List ℕ
   after = area_of table states operations c area
 

@@ -1,13 +1,10 @@
 -- Where orders of the catalogue certificate's looms lead: from the start (B, 0), loom 0 first, to (A, j) after j more looms; another loom
 -- first, to (B, i) after i looms other than loom 0. For any n.
 -- Assumes nothing.
-use Prim.Native.Nat.{ℕ, zero, suc, ◌+◌, ◌-◌, ◌*◌, ◌≤◌, ◌<◌}
-use Rattle.std.specs.Prelude.{◌≡◌, eqb, length, get_or}
+use Rattle.std.specs.Prelude.{ℕ, zero, suc, ◌+◌, ◌-◌, ◌*◌, ◌≤◌, ◌<◌, ◌≡◌, eqb, length, get_or, List, [], ◌∷◌}
 use Rattle.std.proofs.Math.Path.{refl, ap}
-use Rattle.std.proofs.Common.{sym, subst, ◌∙◌, not-suc-le-zero, eq-eqb, ne_eqb}
-use mathlib.Core.List.{List, [], ◌∷◌}
+use Rattle.std.proofs.Common.{sym, subst, ◌∙◌, not-suc-le-zero, eq-eqb, ne_eqb, arith}
 use Rattle.std.proofs.Math.Decide.{dec_le, ℕ_discrete}
-use native.Mathlib.Omega.{arith}
 use Rattle.std.proofs.Math.Dec.{eqb-zero-suc}
 use Rattle.std.proofs.lemmas.List.{length-replicate, get_or-replicate}
 use Rattle.cell.specs.Catalogue.{table_of, after_zero}

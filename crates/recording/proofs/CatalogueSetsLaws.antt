@@ -1,17 +1,15 @@
 -- The two sets of the catalogue certificate: its looms pass the check's tests, and its sets are the rows of A and those of B but the start.
 -- Assumes nothing.
-use Rattle.std.specs.Prelude.{ℕ, zero, suc, ◌+◌, ◌-◌, ◌*◌, ◌≤◌, ◌<◌, min, ◌≡◌, refl, ◌↔◌, List, length, replicate}
-use Rattle.std.proofs.Common.{sym, ap, ap₂, subst, ◌∙◌, inl, inr, take_at}
+use Rattle.std.specs.Prelude.{ℕ, zero, suc, ◌+◌, ◌-◌, ◌*◌, ◌≤◌, ◌<◌, min, ◌≡◌, refl, ◌↔◌, Ok, List, length, replicate}
+use Rattle.std.proofs.Common.{sym, ap, ap₂, subst, ◌∙◌, inl, inr, take_at, arith}
 use Rattle.std.proofs.Math.Path.{transport}
 use Rattle.std.proofs.Math.Decide.{dec_le, dec_lt}
-use native.Mathlib.Omega.{arith}
 use Rattle.sets.specs.Sets.{bit, members, size_of, word_bits}
 use Rattle.sets.specs.MembersLaws.{bit_cases, size_more}
-use Rattle.cell.specs.declared.Formed.{Formed}
 use Rattle.cell.specs.Catalogue.{table_of}
 use Rattle.cell.specs.CatalogueLaws.{catalogue_has_form}
 use Rattle.cell.specs.Limits.{edition}
-use Rattle.cell.specs.Table.{entry_of, formed}
+use Rattle.cell.specs.Table.{entry_of}
 use Rattle.cell.specs.TableLaws.{form_of_good}
 use Rattle.recording.specs.declared.Certificate.{Certificate}
 use Rattle.recording.specs.declared.Seat.{Seat}
@@ -73,18 +71,15 @@ rest_of_B n = omega (arith, followers_of_B (n - 1))
 
 module _ (n : ℕ) (several : 2 ≤ n) (few : n ≤ edition.looms) (c : Certificate) (is : CatalogueCertificate n c) (room : ℕ) (enough : room_for n ≤ room) where
   -- ---- past 2 to 9 and 40
-  past : fault_of (table_of n) (2 * n) 2 c room ≡ formed 0 0
+  past : fault_of (table_of n) (2 * n) 2 c room ≡ Ok tt
   past =
-      fault_looms (table_of n) (2 * n) 2 c room (ap (λ (f : Formed). f.code) (form_of_good (table_of n) (2 * n) 2 (catalogue_has_form n several few)))
+      fault_looms (table_of n) (2 * n) 2 c room (form_of_good (table_of n) (2 * n) 2 (catalogue_has_form n several few))
       (omega (arith, is.start_is))
       ∙ fault_none 2 c room (omega (arith, is.count_is)) (omega (arith, is.count_is))
       (omega (arith, is.count_is, all_fit n several, ap (first_misfit 2) is.looms_are))
       (λ none. omega (arith, one_of_A n, ap (side_count 0) is.looms_are))
       (λ none. omega (arith, rest_of_B n, ap (side_count 1) is.looms_are))
       (subst (λ (k : ℕ). room_for k ≤ room) (sym is.count_is) enough)
-
-  past_code : (fault_of (table_of n) (2 * n) 2 c room).code ≡ 0
-  past_code = ap (λ (f : Formed). f.code) past
 
   -- ---- the sets
   set_a : ℕ
@@ -99,7 +94,7 @@ module _ (n : ℕ) (several : 2 ≤ n) (few : n ≤ edition.looms) (c : Certific
   rows_of_A : (q : ℕ) → (bit set_a q ≡ 1) ↔ ((0 ≤ q) × (q < n))
   unfolding set_a
   rows_of_A q =
-      let Q = set_is_Q (table_of n) (2 * n) 2 c room past_code 0 q in (
+      let Q = set_is_Q (table_of n) (2 * n) 2 c room past 0 q in (
         λ has. (omega arith, reaches_A n several q (transport (of_these 0 q) (Q.0 has))),
         λ within. Q.1 (transport (sym (of_these 0 q)) (row_of_A n several q within.1)),
       )
@@ -107,16 +102,16 @@ module _ (n : ℕ) (several : 2 ≤ n) (few : n ≤ edition.looms) (c : Certific
   rows_of_B : (q : ℕ) → (bit set_b q ≡ 1) ↔ ((n + 1 ≤ q) × (q < 2 * n))
   unfolding set_b
   rows_of_B q =
-      let Q = set_is_Q (table_of n) (2 * n) 2 c room past_code 1 q in (
+      let Q = set_is_Q (table_of n) (2 * n) 2 c room past 1 q in (
         λ has. let there = reaches_B n several q (transport (of_these 1 q) (Q.0 has)) in (omega (arith, there.0), there.1),
         λ within. Q.1 (transport (sym (of_these 1 q)) (row_of_B n several q (omega (arith, within.0)) within.1)),
       )
 
   -- ---- the answer
-  pub recorded : judged_of (table_of n) (2 * n) 2 c room ≡ judgement 0 0 (set_by (table_of n) (2 * n) c 0) (set_by (table_of n) (2 * n) c 1)
+  pub recorded : judged_of (table_of n) (2 * n) 2 c room ≡ judgement (Ok tt) (set_by (table_of n) (2 * n) c 0) (set_by (table_of n) (2 * n) c 1)
   unfolding set_a set_b
   recorded =
-      judged_past (table_of n) (2 * n) 2 c room past_code
+      judged_past (table_of n) (2 * n) 2 c room past
       ∙ when_recorded c.start (side_count 0 (looms_of c)) (side_count 1 (looms_of c)) set_a set_b
       (λ q in_a in_b. omega (arith, (rows_of_A q).0 in_a, (rows_of_B q).0 in_b))
       (inl (λ there. omega (arith, (rows_of_A c.start).0 there, is.start_is)))

@@ -1,9 +1,8 @@
 -- The fill, one word more: what the loop over the words keeps.
 -- Assumes nothing.
-use Prim.Native.Nat.{ℕ, zero, suc, ◌+◌, ◌-◌, ◌*◌, ◌^◌, ◌≤◌, ◌<◌}
-use Rattle.std.specs.Prelude.{◌≡◌, Bool, true, false, List, [], ◌∷◌, ◌++◌, eqb, length, get_or, take, drop, set}
+use Rattle.std.specs.Prelude.{ℕ, zero, suc, ◌+◌, ◌-◌, ◌^◌, ◌≤◌, ◌<◌, ◌≡◌, Bool, true, false, List, [], ◌∷◌, ◌++◌, eqb, length, get_or, drop, set}
 use Rattle.std.proofs.Math.Path.{refl, ap₂}
-use Rattle.std.proofs.Common.{sym, ap, ◌∙◌, append-nil, append_assoc, le_of_eq, add-one, arith, eqb-true, length-append, length-drop, drop_of_length-le, pow_pos, drop-cons, take_at, drop_at, take_all, drop-drop}
+use Rattle.std.proofs.Common.{sym, ap, ◌∙◌, le_of_eq, add-one, arith, eqb-true, pow_pos, drop-cons}
 use Rattle.std.proofs.Math.Bool.{cond}
 use Rattle.std.specs.Int.Bits.{bit_or}
 use Rattle.std.proofs.Math.ListN.{get_or-append}
@@ -11,14 +10,12 @@ use Rattle.std.proofs.Math.Seq.{append_snoc}
 use Rattle.std.proofs.lemmas.List.{set_at}
 use Rattle.sets.specs.Sets.{bit, has_of}
 use Rattle.cell.specs.Table.{entry_of}
-use Rattle.recording.specs.declared.Certificate.{Certificate}
 use Rattle.recording.specs.declared.Seat.{Seat}
-use Rattle.recording.specs.Check.{looms_of, set_by}
 use Rattle.recording.specs.Fitting.{words_to, word_by}
 use Rattle.recording.specs.OrdersLaws.{single_within}
 use Rattle.recording.specs.Recording.{operation_at}
 use Rattle.recording.proofs.SetLaws.{union_end}
-use Rattle.recording.specs.Words.{advanced, union_of, first_by, last_by, word_from, filled, set_of}
+use Rattle.recording.specs.Words.{advanced, union_of, first_by, last_by, word_from, filled}
 use Rattle.recording.specs.WordsLaws.{length_filled}
 
 -- Word m looks at the words below m alone.
@@ -64,9 +61,6 @@ module _ (table : List ℕ) (states : ℕ) (looms : List Seat) (start X m : ℕ)
   module _ (before : List ℕ) (within : m < length before) (area : List ℕ)
       (so_far : area ≡ words_to table states looms start X m ++ drop m before)
       (w : ℕ) (made : w ≡ word_by table states looms start X area m (length looms)) where
-    pub fill_length : length area ≡ length before
-    fill_length = ap length so_far ∙ simp (length-append, length-drop) (omega (arith, words_length))
-
     one_more : words_to table states looms start X (m + 1) ≡ words_to table states looms start X m ++ (w ∷ [])
     one_more =
         words_more (drop m before)
@@ -83,32 +77,3 @@ module _ (table : List ℕ) (states : ℕ) (looms : List Seat) (start X m : ℕ)
     pub union_more : (so : ℕ) → so ≡ union_of 0 (words_to table states looms start X m) → bit_or so w ≡ union_of 0 (words_to table states looms start X (m + 1))
     union_more so e =
         ap (λ (x : ℕ). bit_or x w) e ∙ sym (union_end 0 (words_to table states looms start X m) w) ∙ ap (union_of 0) (sym one_more)
-
--- Two fills, the second in the part of the area behind the first: what the area then holds.
-pub two_parts : (of_a of_b area first second : List ℕ) (size : ℕ) → length of_a ≡ size → first ≡ of_a ++ drop size area
-    → second ≡ of_b ++ drop size (take (length first - size) (drop size first))
-    → take size first ++ (second ++ drop (length first - size) (drop size first)) ≡ of_a ++ of_b ++ drop (2 * size) area
-two_parts of_a of_b area first second size long one two =
-    ap₂ (λ (l k : List ℕ). l ++ k) (ap (take size) one ∙ take_at of_a (drop size area) size long)
-    (ap₂ (λ (l k : List ℕ). l ++ k) (two ∙ ap (λ (l : List ℕ). of_b ++ drop size l) whole) none ∙ append-nil _)
-    ∙ sym (append_assoc of_a of_b (drop size (drop size area)))
-    ∙ ap (λ (l : List ℕ). of_a ++ of_b ++ l) (drop-drop size size area ∙ ap (λ (i : ℕ). drop i area) twice)
-  where
-    twice : size + size ≡ 2 * size
-    twice = omega arith
-
-    behind : drop size first ≡ drop size area
-    behind = ap (drop size) one ∙ drop_at of_a (drop size area) size long
-
-    whole : take (length first - size) (drop size first) ≡ drop size area
-    whole = take_all (length first - size) (drop size first) (le_of_eq (length-drop size first)) ∙ behind
-
-    none : drop (length first - size) (drop size first) ≡ []
-    none = drop_of_length-le (drop size first) {i = length first - size} (le_of_eq (length-drop size first))
-
--- The union of the words of X is the set of X.
-pub set_is : (table : List ℕ) (states : ℕ) (c : Certificate) → length (looms_of c) ≡ c.count → (X size : ℕ) → size ≡ 2 ^ c.count
-    → union_of 0 (words_to table states (looms_of c) c.start X size) ≡ set_by table states c X
-unfolding set_of
-set_is table states c counted X size all =
-    ap (λ (n : ℕ). union_of 0 (words_to table states (looms_of c) c.start X n)) (all ∙ ap (λ (n : ℕ). 2 ^ n) (sym counted))

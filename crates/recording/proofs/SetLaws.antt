@@ -1,7 +1,6 @@
 -- The two theorems that join the words with source document 003: what word m holds, and what the set of X holds.
 -- Assumes nothing.
-use Prim.Native.Nat.{ℕ, zero, suc, ◌^◌, ◌≤◌, ◌<◌}
-use Rattle.std.specs.Prelude.{◌≡◌, refl, ◌↔◌, ◌⊎◌, List, [], ◌∷◌, ◌++◌, get_or}
+use Rattle.std.specs.Prelude.{ℕ, zero, suc, ◌^◌, ◌≤◌, ◌<◌, ◌≡◌, refl, ◌↔◌, ◌⊎◌, List, [], ◌∷◌, ◌++◌, get_or}
 use Rattle.std.proofs.Common.{sym, ◌∙◌, inl, inr, le_refl, not-suc-le-zero, arith}
 use Rattle.std.proofs.Math.Path.{subst}
 use Rattle.std.proofs.Math.Logic.{⊎_elim}

@@ -1,11 +1,14 @@
 -- What each code of the verdict says of the two sets, both ways.
 -- Assumes nothing.
-use Prim.Native.Nat.{ℕ, ◌^◌, ◌<◌}
-use Rattle.std.specs.Prelude.{◌≡◌, refl, Bool, true, false, not, cond, ◌&&◌, ◌⊎◌, eqb}
+use Rattle.std.specs.Prelude.{ℕ, ◌^◌, ◌<◌, ◌≡◌, refl, Bool, true, false, not, Ok, Err, ◌&&◌, ◌⊎◌, eqb}
 use Rattle.std.proofs.Common.{sym, ap, subst, ◌∙◌, inl, inr, lt_of_le_of_lt, arith, eq-eqb, ne_eqb}
 use Rattle.std.proofs.Math.Decide.{ℕ_discrete, dec_lt}
 use Rattle.std.specs.Int.Bits.{bit_and}
 use Rattle.std.proofs.lemmas.Nat.{and_le_l}
+use Rattle.codes.specs.declared.Code.{Code}
+use Rattle.codes.specs.declared.Code.TheVariants.{SharedState, ReturnsToA, ReturnsToB}
+use Rattle.codes.specs.Codes as codes
+use Rattle.codes.specs.Codes.{number_of, refused_at}
 use Rattle.sets.specs.Sets.{bit, has_of, lowest_of, word_bits}
 use Rattle.sets.specs.MembersLaws.{Lowest, lowest_is_lowest}
 use Rattle.sets.specs.SetsLaws.{bit_small, bit_beyond, bit_zero, bit-bit_and, equal_members}
@@ -85,32 +88,29 @@ lowest_there k w small some = go (dec_lt (lowest_of k w) k)
     go (no past) = absurd (some (equal_members w 0 (λ q. none past q ∙ sym (bit_zero q))))
 
 -- ---- the verdict
--- What each code says.
-pub data Verdict (start of_a of_b a b : ℕ) : ℕ → Type 0 where
-  both_have : Shared a b → Verdict start of_a of_b a b 20
-  back_to_A : Apart a b → Back start a of_b → Verdict start of_a of_b a b 21
-  back_to_B : Apart a b → Away start a of_b → Back start b of_a → Verdict start of_a of_b a b 22
-  recorded : Apart a b → Away start a of_b → Away start b of_a → Verdict start of_a of_b a b 0
+-- What each outcome says, and its place.
+pub data Verdict (start of_a of_b a b : ℕ) : codes.Verdict → Type 0 where
+  both_have : Shared a b → Verdict start of_a of_b a b (Err (refused_at SharedState (lowest_of word_bits (bit_and a b))))
+  back_to_A : Apart a b → Back start a of_b → Verdict start of_a of_b a b (Err (refused_at ReturnsToA start))
+  back_to_B : Apart a b → Away start a of_b → Back start b of_a → Verdict start of_a of_b a b (Err (refused_at ReturnsToB start))
+  recorded : Apart a b → Away start a of_b → Away start b of_a → Verdict start of_a of_b a b (Ok tt)
 
--- The code and the place of an answer.
-abbrev pub code_of : Judged → ℕ
-code_of j = j.code
-
-abbrev pub place_of : Judged → ℕ
-place_of j = j.place
+-- What an answer comes to.
+abbrev pub outcome_in : Judged → codes.Verdict
+outcome_in j = j.outcome
 
 module _ (start of_a of_b a b : ℕ) where
-  pub when_shared : Shared a b → verdict_of start of_a of_b a b ≡ judgement 20 (lowest_of word_bits (bit_and a b)) a b
+  pub when_shared : Shared a b → verdict_of start of_a of_b a b ≡ judgement (Err (refused_at SharedState (lowest_of word_bits (bit_and a b)))) a b
   when_shared shared = verdict_shared start of_a of_b a b (common_has a b shared)
 
-  pub when_back_to_A : Apart a b → Back start a of_b → verdict_of start of_a of_b a b ≡ judgement 21 start a b
+  pub when_back_to_A : Apart a b → Back start a of_b → verdict_of start of_a of_b a b ≡ judgement (Err (refused_at ReturnsToA start)) a b
   when_back_to_A apart back = verdict_returns_A start of_a of_b a b (common_none a b apart) (comes_back_lem start a of_b back)
 
-  pub when_back_to_B : Apart a b → Away start a of_b → Back start b of_a → verdict_of start of_a of_b a b ≡ judgement 22 start a b
+  pub when_back_to_B : Apart a b → Away start a of_b → Back start b of_a → verdict_of start of_a of_b a b ≡ judgement (Err (refused_at ReturnsToB start)) a b
   when_back_to_B apart away back =
       verdict_returns_B start of_a of_b a b (common_none a b apart) (stays_away start a of_b away) (comes_back_lem start b of_a back)
 
-  pub when_recorded : Apart a b → Away start a of_b → Away start b of_a → verdict_of start of_a of_b a b ≡ judgement 0 0 a b
+  pub when_recorded : Apart a b → Away start a of_b → Away start b of_a → verdict_of start of_a of_b a b ≡ judgement (Ok tt) a b
   when_recorded apart away off =
       verdict_accepted start of_a of_b a b (common_none a b apart) (stays_away start a of_b away) (stays_away start b of_a off)
 
@@ -129,67 +129,71 @@ module _ (start of_a of_b a b : ℕ) where
           λ q lower in_a in_b. omega (arith, bit-bit_and a b q, (lowest_is_lowest word_bits (bit_and a b)).none_below q lower),
         )
 
-    pub verdict_says : Verdict start of_a of_b a b (verdict_of start of_a of_b a b).code
+    pub verdict_says : Verdict start of_a of_b a b (verdict_of start of_a of_b a b).outcome
     verdict_says = go (ℕ_discrete (bit_and a b) 0)
       where
-        at : (j : Judged) → verdict_of start of_a of_b a b ≡ j → Verdict start of_a of_b a b j.code → Verdict start of_a of_b a b (verdict_of start of_a of_b a b).code
-        at j e v = subst (Verdict start of_a of_b a b) (ap code_of (sym e)) v
+        at : (j : Judged) → verdict_of start of_a of_b a b ≡ j → Verdict start of_a of_b a b j.outcome
+            → Verdict start of_a of_b a b (verdict_of start of_a of_b a b).outcome
+        at j e v = subst (Verdict start of_a of_b a b) (ap outcome_in (sym e)) v
 
-        last : Apart a b → Away start a of_b → (Away start b of_a ⊎ Back start b of_a) → Verdict start of_a of_b a b (verdict_of start of_a of_b a b).code
-        last apart away (inl off) = at (judgement 0 0 a b) (when_recorded apart away off) (recorded apart away off)
-        last apart away (inr back) = at (judgement 22 start a b) (when_back_to_B apart away back) (back_to_B apart away back)
+        last : Apart a b → Away start a of_b → (Away start b of_a ⊎ Back start b of_a) → Verdict start of_a of_b a b (verdict_of start of_a of_b a b).outcome
+        last apart away (inl off) = at (judgement (Ok tt) a b) (when_recorded apart away off) (recorded apart away off)
+        last apart away (inr back) = at (judgement (Err (refused_at ReturnsToB start)) a b) (when_back_to_B apart away back) (back_to_B apart away back)
 
-        next : Apart a b → (Away start a of_b ⊎ Back start a of_b) → Verdict start of_a of_b a b (verdict_of start of_a of_b a b).code
+        next : Apart a b → (Away start a of_b ⊎ Back start a of_b) → Verdict start of_a of_b a b (verdict_of start of_a of_b a b).outcome
         next apart (inl away) = last apart away (away_or_back start b of_a)
-        next apart (inr back) = at (judgement 21 start a b) (when_back_to_A apart back) (back_to_A apart back)
+        next apart (inr back) = at (judgement (Err (refused_at ReturnsToA start)) a b) (when_back_to_A apart back) (back_to_A apart back)
 
-        go : Dec (bit_and a b ≡ 0) → Verdict start of_a of_b a b (verdict_of start of_a of_b a b).code
+        go : Dec (bit_and a b ≡ 0) → Verdict start of_a of_b a b (verdict_of start of_a of_b a b).outcome
         go (yes none) = next (apart_of_none a b none) (away_or_back start a of_b)
         go (no some) =
             let there = in_common a b (lowest_of word_bits (bit_and a b)) (lowest_there word_bits (bit_and a b) common_small some) in
             let shared : Shared a b = (lowest_of word_bits (bit_and a b), there.0, there.1) in
-            at (judgement 20 (lowest_of word_bits (bit_and a b)) a b) (when_shared shared) (both_have shared)
+            at (judgement (Err (refused_at SharedState (lowest_of word_bits (bit_and a b)))) a b) (when_shared shared) (both_have shared)
 
--- Whatever the code, the sets are given.
-abbrev Gives : ℕ → ℕ → Judged → Type 0
-Gives a b j = (j.a ≡ a) × (j.b ≡ b)
-
-either_gives : (a b : ℕ) (t : Bool) (j k : Judged) → Gives a b j → Gives a b k → Gives a b (cond t j k)
-either_gives a b true j k one other = one
-either_gives a b false j k one other = other
-
-pub verdict_gives : (start of_a of_b a b : ℕ) → ((verdict_of start of_a of_b a b).a ≡ a) × ((verdict_of start of_a of_b a b).b ≡ b)
+-- Whatever it comes to, the sets are given.
+pub verdict_gives : (start of_a of_b a b : ℕ) → ((verdict_of start of_a of_b a b).sets.a ≡ a) × ((verdict_of start of_a of_b a b).sets.b ≡ b)
 unfolding verdict_of
-verdict_gives start of_a of_b a b =
-    either_gives a b (not (eqb (bit_and a b) 0)) (judgement 20 (lowest_of word_bits (bit_and a b)) a b)
-    (cond (comes_back start a of_b) (judgement 21 start a b) (cond (comes_back start b of_a) (judgement 22 start a b) (judgement 0 0 a b)))
-    (refl, refl)
-    (either_gives a b (comes_back start a of_b) (judgement 21 start a b) (cond (comes_back start b of_a) (judgement 22 start a b) (judgement 0 0 a b))
-    (refl, refl)
-    (either_gives a b (comes_back start b of_a) (judgement 22 start a b) (judgement 0 0 a b) (refl, refl) (refl, refl)))
+verdict_gives start of_a of_b a b = (refl, refl)
 
--- A code taken back to what it says.
+-- One refusal has one code and one place.
+abbrev number_in : codes.Verdict → ℕ
+number_in (Ok done) = 0
+number_in (Err refusal) = number_of refusal.code
+
+abbrev place_in : codes.Verdict → ℕ
+place_in (Ok done) = 0
+place_in (Err refusal) = refusal.place
+
+module _ {code other : Code} {p q : ℕ} (e : ◌≡◌ {A = codes.Verdict} (Err (refused_at code p)) (Err (refused_at other q))) where
+  same_number : number_of code ≡ number_of other
+  same_number = ap number_in e
+
+  pub same_place : p ≡ q
+  same_place = ap place_in e
+
+-- An outcome taken back to what it says.
 module _ {start of_a of_b a b : ℕ} where
-  pub says_shared : {code : ℕ} → Verdict start of_a of_b a b code → code ≡ 20 → Shared a b
+  pub says_shared : {o : codes.Verdict} {place : ℕ} → Verdict start of_a of_b a b o → o ≡ Err (refused_at SharedState place) → Shared a b
   says_shared (both_have shared) e = shared
-  says_shared (back_to_A apart back) e = absurd (omega arith)
-  says_shared (back_to_B apart away back) e = absurd (omega arith)
-  says_shared (recorded apart away off) e = absurd (omega arith)
+  says_shared (back_to_A apart back) e = absurd (omega (arith, same_number e))
+  says_shared (back_to_B apart away back) e = absurd (omega (arith, same_number e))
+  says_shared (recorded apart away off) e = cc
 
-  pub says_back_to_A : {code : ℕ} → Verdict start of_a of_b a b code → code ≡ 21 → Apart a b × Back start a of_b
-  says_back_to_A (both_have shared) e = absurd (omega arith)
+  pub says_back_to_A : {o : codes.Verdict} {place : ℕ} → Verdict start of_a of_b a b o → o ≡ Err (refused_at ReturnsToA place) → Apart a b × Back start a of_b
+  says_back_to_A (both_have shared) e = absurd (omega (arith, same_number e))
   says_back_to_A (back_to_A apart back) e = (apart, back)
-  says_back_to_A (back_to_B apart away back) e = absurd (omega arith)
-  says_back_to_A (recorded apart away off) e = absurd (omega arith)
+  says_back_to_A (back_to_B apart away back) e = absurd (omega (arith, same_number e))
+  says_back_to_A (recorded apart away off) e = cc
 
-  pub says_back_to_B : {code : ℕ} → Verdict start of_a of_b a b code → code ≡ 22 → Apart a b × Back start b of_a
-  says_back_to_B (both_have shared) e = absurd (omega arith)
-  says_back_to_B (back_to_A apart back) e = absurd (omega arith)
+  pub says_back_to_B : {o : codes.Verdict} {place : ℕ} → Verdict start of_a of_b a b o → o ≡ Err (refused_at ReturnsToB place) → Apart a b × Back start b of_a
+  says_back_to_B (both_have shared) e = absurd (omega (arith, same_number e))
+  says_back_to_B (back_to_A apart back) e = absurd (omega (arith, same_number e))
   says_back_to_B (back_to_B apart away back) e = (apart, back)
-  says_back_to_B (recorded apart away off) e = absurd (omega arith)
+  says_back_to_B (recorded apart away off) e = cc
 
-  pub says_recorded : {code : ℕ} → Verdict start of_a of_b a b code → code ≡ 0 → Apart a b × Away start a of_b × Away start b of_a
-  says_recorded (both_have shared) e = absurd (omega arith)
-  says_recorded (back_to_A apart back) e = absurd (omega arith)
-  says_recorded (back_to_B apart away back) e = absurd (omega arith)
+  pub says_recorded : {o : codes.Verdict} → Verdict start of_a of_b a b o → o ≡ Ok tt → Apart a b × Away start a of_b × Away start b of_a
+  says_recorded (both_have shared) e = cc
+  says_recorded (back_to_A apart back) e = cc
+  says_recorded (back_to_B apart away back) e = cc
   says_recorded (recorded apart away off) e = (apart, away, off)

@@ -1,11 +1,12 @@
--- Past 2 to 9 and 40: what code 0 of the refusals says of a table, a certificate and an area's length.
+-- Past 2 to 9 and 40: what no refusal says of a table, a certificate and an area's length.
 -- Assumes nothing.
-use Rattle.std.specs.Prelude.{ℕ, zero, suc, ◌≤◌, ◌<◌, ◌≡◌, refl, Bool, true, false, cond, ◌||◌, List, [], ◌∷◌, leb, ltb, length}
-use Rattle.std.proofs.Common.{sym, ap, subst, ◌∙◌, le_of_suc-le-suc, not-suc-le-zero, arith, leb-false, ltb-false, length-take}
-use Rattle.std.proofs.Math.Decide.{dec_le, ℕ_discrete}
-use Rattle.cell.specs.declared.Formed.{Formed}
+use Rattle.std.specs.Prelude.{ℕ, zero, suc, ◌≤◌, ◌<◌, ◌≡◌, refl, Bool, true, false, cond, ◌||◌, Ok, Err, List, [], ◌∷◌, leb, ltb, length}
+use Rattle.std.proofs.Common.{sym, subst, ◌∙◌, le_of_suc-le-suc, not-suc-le-zero, arith, leb-false, ltb-false, length-take}
+use Rattle.std.proofs.Math.Decide.{dec_le}
+use Rattle.codes.specs.declared.Refusal.{Refusal}
+use Rattle.codes.specs.Codes.{Verdict}
 use Rattle.cell.specs.Limits.{edition}
-use Rattle.cell.specs.Table.{entry_of, formed, form_of}
+use Rattle.cell.specs.Table.{entry_of, form_of}
 use Rattle.cell.specs.TableLaws.{HasForm, form_says, good_moves}
 use Rattle.recording.specs.declared.Certificate.{Certificate}
 use Rattle.recording.specs.declared.Seat.{Seat}
@@ -53,12 +54,9 @@ pub record Admitted (table : List ℕ) (states operations : ℕ) (c : Certificat
   pub some_B : 1 ≤ side_count 1 (looms_of c)
   pub enough : room_for c.count ≤ room
 
-abbrev fault_code : Formed → ℕ
-fault_code f = f.code
-
 module _ (table : List ℕ) (states operations : ℕ) (c : Certificate) (room : ℕ) where
-  -- code 0, and what one of the refusals is: a contradiction where that refusal's code is not 0
-  looms_admitted : (looms_fault operations c room).code ≡ 0 → (form_of table states operations).code ≡ 0 → c.start < states
+  -- no refusal, and what one of the refusals is: a contradiction
+  looms_admitted : looms_fault operations c room ≡ Ok tt → form_of table states operations ≡ Ok tt → c.start < states
       → Admitted table states operations c room
   looms_admitted none form start_fits =
       record {
@@ -72,44 +70,40 @@ module _ (table : List ℕ) (states operations : ℕ) (c : Certificate) (room : 
         enough = enough;
       }
     where
-      -- a refusal with a code above 0
-      not_refused : (code place : ℕ) → 1 ≤ code → looms_fault operations c room ≡ formed code place → ⊥
-      not_refused code place above e = let same : (looms_fault operations c room).code ≡ code = ap fault_code e in omega arith
+      not_refused : {refusal : Refusal} → looms_fault operations c room ≡ Err refusal → ⊥
+      not_refused e = cc
 
       several : 2 ≤ c.count
-      several = elim (dec_le 2 c.count) [ yes h ↦ h | no h ↦ absurd (not_refused 7 0 (omega arith) (fault_few operations c room (omega arith))) ]
+      several = elim (dec_le 2 c.count) [ yes h ↦ h | no h ↦ absurd (not_refused (fault_few operations c room (omega arith))) ]
 
       few : c.count ≤ edition.looms
-      few = elim (dec_le c.count edition.looms) [ yes h ↦ h | no h ↦ absurd (not_refused 7 0 (omega arith) (fault_many operations c room several (omega arith))) ]
+      few = elim (dec_le c.count edition.looms) [ yes h ↦ h | no h ↦ absurd (not_refused (fault_many operations c room several (omega arith))) ]
 
       fitted : c.count ≤ first_misfit operations (looms_of c)
-      fitted = elim (dec_le c.count (first_misfit operations (looms_of c))) [ yes h ↦ h | no h ↦ absurd (not_refused 8 (first_misfit operations (looms_of c)) (omega arith) (fault_misfit operations c room several few (omega arith))) ]
+      fitted = elim (dec_le c.count (first_misfit operations (looms_of c))) [ yes h ↦ h | no h ↦ absurd (not_refused (fault_misfit operations c room several few (omega arith))) ]
 
       some_A : 1 ≤ side_count 0 (looms_of c)
-      some_A = elim (dec_le 1 (side_count 0 (looms_of c))) [ yes h ↦ h | no h ↦ absurd (not_refused 9 0 (omega arith) (fault_no_A operations c room several few fitted (omega arith))) ]
+      some_A = elim (dec_le 1 (side_count 0 (looms_of c))) [ yes h ↦ h | no h ↦ absurd (not_refused (fault_no_A operations c room several few fitted (omega arith))) ]
 
       some_B : 1 ≤ side_count 1 (looms_of c)
-      some_B = elim (dec_le 1 (side_count 1 (looms_of c))) [ yes h ↦ h | no h ↦ absurd (not_refused 9 0 (omega arith) (fault_no_B operations c room several few fitted (λ e. omega (arith, some_A)) (omega arith))) ]
+      some_B = elim (dec_le 1 (side_count 1 (looms_of c))) [ yes h ↦ h | no h ↦ absurd (not_refused (fault_no_B operations c room several few fitted (λ e. omega (arith, some_A)) (omega arith))) ]
 
       enough : room_for c.count ≤ room
-      enough = elim (dec_le (room_for c.count) room) [ yes h ↦ h | no h ↦ absurd (not_refused 40 0 (omega arith) (fault_room operations c room several few fitted (λ e. omega (arith, some_A)) (λ e. omega (arith, some_B)) (omega arith))) ]
+      enough = elim (dec_le (room_for c.count) room) [ yes h ↦ h | no h ↦ absurd (not_refused (fault_room operations c room several few fitted (λ e. omega (arith, some_A)) (λ e. omega (arith, some_B)) (omega arith))) ]
 
-  pub admitted : (fault_of table states operations c room).code ≡ 0 → Admitted table states operations c room
-  admitted none = looms_admitted (ap fault_code (sym (fault_looms table states operations c room form start_fits)) ∙ none) form start_fits
+  pub admitted : fault_of table states operations c room ≡ Ok tt → Admitted table states operations c room
+  admitted none = go (form_of table states operations) refl
     where
-      form : (form_of table states operations).code ≡ 0
-      form =
-          elim (ℕ_discrete (form_of table states operations).code 0) [
-            | yes h ↦ h
-            | no h ↦ absurd (h (ap fault_code (sym (fault_form table states operations c room h)) ∙ none))
+      from : form_of table states operations ≡ Ok tt → Admitted table states operations c room
+      from form =
+          elim (dec_le states c.start) [
+            | yes h ↦ absurd (cc (fault_start table states operations c room form h))
+            | no h ↦ looms_admitted (sym (fault_looms table states operations c room form (omega arith)) ∙ none) form (omega arith)
           ]
 
-      start_fits : c.start < states
-      start_fits =
-          elim (dec_le states c.start) [
-            | yes h ↦ absurd (let same : (fault_of table states operations c room).code ≡ 6 = ap fault_code (fault_start table states operations c room form h) in omega arith)
-            | no h ↦ omega arith
-          ]
+      go : (form : Verdict) → form_of table states operations ≡ form → Admitted table states operations c room
+      go (Ok done) e = from e
+      go (Err refusal) e = absurd (cc (fault_form table states operations c room refusal e))
 
   -- The looms are as many as the count says, and their steps are as the code and the theorems need them.
   module _ (ok : Admitted table states operations c room) where

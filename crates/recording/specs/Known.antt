@@ -1,9 +1,12 @@
 -- Document 01, "Known certificates": these eleven, as one table over the whole check, by computation.
 -- Assumes nothing.
-use Rattle.std.specs.Prelude.{ℕ, ◌-◌, ◌≡◌, refl, List, [], ◌∷◌, ◌++◌, map, length, replicate}
+use Rattle.std.specs.Prelude.{ℕ, ◌-◌, ◌≡◌, refl, Ok, Err, List, [], ◌∷◌, ◌++◌, map, length, replicate}
 use Rattle.sets.specs.Sets.{bit, members, size_of, lowest_of}
+use Rattle.codes.specs.declared.Code.{Code}
+use Rattle.codes.specs.declared.Code.TheVariants.{SharedState, ReturnsToA, ReturnsToB}
+use Rattle.codes.specs.Codes.{refused_at}
 use Rattle.cell.specs.Limits.{edition}
-use Rattle.cell.specs.Table.{first_outside, form_of}
+use Rattle.cell.specs.Table.{form_of}
 use Rattle.recording.specs.declared.Certificate.{Certificate}
 use Rattle.recording.specs.declared.Checked.{Checked}
 use Rattle.recording.specs.declared.Seat.{Seat}
@@ -31,6 +34,13 @@ of_a operation = record { side = 0; operation = operation }
 abbrev pub of_b : ℕ → Seat
 of_b operation = record { side = 1; operation = operation }
 
+-- An answer: no refusal (code 0) with the two sizes, and a code and its place with them.
+abbrev pub accepted : ℕ → ℕ → Checked
+accepted a b = checked (Ok tt) a b
+
+abbrev pub refused : Code → ℕ → ℕ → ℕ → Checked
+refused code place a b = checked (Err (refused_at code place)) a b
+
 -- The certificate of a start and these looms.
 abbrev pub certificate_of : ℕ → List Seat → Certificate
 certificate_of start looms =
@@ -47,20 +57,20 @@ abbrev pub late_return : List ℕ
 late_return = 1 ∷ 1 ∷ 2 ∷ 3 ∷ 2 ∷ 3 ∷ 2 ∷ 0 ∷ []
 
 -- sticky; size 2; size 2, three looms; returns; returns, sides exchanged; late return; late return, exchanged; test and set; toggle;
--- plain write; one state. The answer is code, place and sizes.
+-- plain write; one state. The answer is code, place and sizes: `SharedState` is 20, `ReturnsToA` 21, `ReturnsToB` 22.
 abbrev pub known : List Line
 known =
-    line 3 2 (1 ∷ 1 ∷ 2 ∷ 2 ∷ 1 ∷ 2 ∷ []) 0 (of_a 0 ∷ of_b 1 ∷ []) (checked 0 0 1 1)
-    ∷ line 4 2 size_two 2 (of_a 0 ∷ of_b 1 ∷ []) (checked 0 0 2 1)
-    ∷ line 4 2 size_two 2 (of_a 0 ∷ of_b 1 ∷ of_b 1 ∷ []) (checked 20 0 3 3)
-    ∷ line 3 2 returns 0 (of_a 0 ∷ of_b 1 ∷ []) (checked 0 0 2 1)
-    ∷ line 3 2 returns 0 (of_b 0 ∷ of_a 1 ∷ []) (checked 0 0 1 2)
-    ∷ line 4 2 late_return 0 (of_a 0 ∷ of_b 1 ∷ of_b 1 ∷ []) (checked 21 0 3 1)
-    ∷ line 4 2 late_return 0 (of_b 0 ∷ of_a 1 ∷ of_a 1 ∷ []) (checked 22 0 1 3)
-    ∷ line 2 1 (1 ∷ 1 ∷ []) 0 (of_a 0 ∷ of_b 0 ∷ []) (checked 20 1 1 1)
-    ∷ line 2 1 (1 ∷ 0 ∷ []) 0 (of_a 0 ∷ of_b 0 ∷ []) (checked 20 0 2 2)
-    ∷ line 3 2 (1 ∷ 1 ∷ 1 ∷ 2 ∷ 2 ∷ 2 ∷ []) 0 (of_a 0 ∷ of_b 1 ∷ []) (checked 20 1 2 2)
-    ∷ line 1 1 (0 ∷ []) 0 (of_a 0 ∷ of_b 0 ∷ []) (checked 20 0 1 1)
+    line 3 2 (1 ∷ 1 ∷ 2 ∷ 2 ∷ 1 ∷ 2 ∷ []) 0 (of_a 0 ∷ of_b 1 ∷ []) (accepted 1 1)
+    ∷ line 4 2 size_two 2 (of_a 0 ∷ of_b 1 ∷ []) (accepted 2 1)
+    ∷ line 4 2 size_two 2 (of_a 0 ∷ of_b 1 ∷ of_b 1 ∷ []) (refused SharedState 0 3 3)
+    ∷ line 3 2 returns 0 (of_a 0 ∷ of_b 1 ∷ []) (accepted 2 1)
+    ∷ line 3 2 returns 0 (of_b 0 ∷ of_a 1 ∷ []) (accepted 1 2)
+    ∷ line 4 2 late_return 0 (of_a 0 ∷ of_b 1 ∷ of_b 1 ∷ []) (refused ReturnsToA 0 3 1)
+    ∷ line 4 2 late_return 0 (of_b 0 ∷ of_a 1 ∷ of_a 1 ∷ []) (refused ReturnsToB 0 1 3)
+    ∷ line 2 1 (1 ∷ 1 ∷ []) 0 (of_a 0 ∷ of_b 0 ∷ []) (refused SharedState 1 1 1)
+    ∷ line 2 1 (1 ∷ 0 ∷ []) 0 (of_a 0 ∷ of_b 0 ∷ []) (refused SharedState 0 2 2)
+    ∷ line 3 2 (1 ∷ 1 ∷ 1 ∷ 2 ∷ 2 ∷ 2 ∷ []) 0 (of_a 0 ∷ of_b 1 ∷ []) (refused SharedState 1 2 2)
+    ∷ line 1 1 (0 ∷ []) 0 (of_a 0 ∷ of_b 0 ∷ []) (refused SharedState 0 1 1)
     ∷ []
 
 -- What the check answers for a line, in an area of just the words that it needs.
@@ -70,5 +80,5 @@ check_line l =
 
 -- "These eleven are proved, as one table."
 pub known_certificates : map check_line known ≡ map (λ (l : Line). l.answer) known
-unfolding check_of judged_of fault_of looms_fault first_misfit form_of first_outside verdict_of lowest_of size_of members bit set_of union_of filled word_from last_by first_by advanced
+unfolding check_of judged_of fault_of looms_fault first_misfit form_of verdict_of lowest_of size_of members bit set_of union_of filled word_from last_by first_by advanced
 known_certificates = refl

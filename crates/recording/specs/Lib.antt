@@ -3,7 +3,6 @@ pub mod CatalogueCertificate
 pub mod Check
 pub mod CheckLaws
 pub mod Clauses
-pub mod ColumnLaws
 pub mod Fitting
 pub mod FittingLaws
 pub mod Known

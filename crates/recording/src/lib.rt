@@ -1,206 +1,160 @@
 // A certificate, and the check that accepts it exactly when it is recording: document 01, "Cell and certificate".
 #![tactic(auto)]
 
-ghost use Rattle.std.specs.Prelude.{◌≡◌, ◌++◌, ◌^◌, ◌≤◌, ◌<◌, eqb, length, drop, take};
+ghost use Rattle.std.specs.Prelude.{◌≡◌, ◌*◌, ◌++◌, ◌^◌, ◌≤◌, ◌<◌, length, get_or, drop};
 ghost use Rattle.std.specs.Int.Bits.{bit_or};
 ghost use Rattle.cell.specs.Table.{entry_of};
 ghost use Rattle.cell.specs.Limits.{edition};
-ghost use Rattle.recording.specs.Recording.{one, side_count};
+ghost use Rattle.recording.specs.Recording.{empty_seat, side_count};
 ghost use Rattle.recording.specs.Words.{advanced, union_of};
-ghost use Rattle.recording.specs.Check.{looms_of, misfit_of, first_misfit, looms_fault, fault_of, comes_back, room_for, verdict_of, verdict_on, words_over, Judges, Checks};
-ghost use Rattle.recording.specs.Fitting.{Steps, Fitting, seats_of, columns_of, words_to, word_by, added_by, first_in, sets_by};
+ghost use Rattle.recording.specs.Check.{misfit_of, lowest_misfit, looms_fault, fault_of, comes_back, outcome_of, Judges, Checks};
+ghost use Rattle.recording.specs.Fitting.{Steps, Fitting, words_to, both_words, word_by, added_by, sets_by};
 
-use cell::{Formed, Moved};
+use cell::Table;
+use codes::{Code, Refusal};
+use sides::Pair;
 
-// Side A by its number, and side B.
+// Side A and side B by their numbers: a certificate's sides are numbers, since a wrong one is refused.
 const A: usize = 0;
 
 const B: usize = 1;
 
 // One loom's seat in a certificate: its side (0 for A, 1 for B) and its operation, as plain numbers, since a wrong one is refused.
-#[derive(Clone, Copy)]
+#[derive(Clone, Copy, Debug, PartialEq, Eq)]
 pub struct Seat {
     pub side: usize,
     pub operation: usize,
 }
 
-// A start state and a seat for each of `count` looms; seats beyond the count say nothing.
-#[derive(Clone, Copy)]
+// A start state and a seat for each of `count` looms; seats beyond the count say nothing. Eight with a count beside, since there is no heap
+// and C hands over fixed memory.
+#[derive(Clone, Copy, Debug, PartialEq, Eq)]
 pub struct Certificate {
     pub start: usize,
     pub count: usize,
     pub seats: [Seat; 8],
 }
 
-// What the check comes to: its code and place, and the sets of A and of B, which are empty where the code is 2 to 9 or 40.
-#[derive(Clone, Copy)]
+// What the check comes to, and the sets of A and of B, which are empty where the code is 2 to 9 or 40.
+#[derive(Clone, Copy, Debug, PartialEq, Eq)]
 pub struct Judged {
-    pub code: u8,
-    pub place: usize,
-    pub a: u64,
-    pub b: u64,
+    pub outcome: Result<(), Refusal>,
+    pub sets: Pair<u64>,
 }
 
-// The check's answer: a code, a place and the number of states in each set.
-#[derive(Clone, Copy)]
+// The check's answer: what it comes to, and the number of states in each set.
+#[derive(Clone, Copy, Debug, PartialEq, Eq)]
 pub struct Checked {
-    pub code: u8,
-    pub place: usize,
-    pub a: usize,
-    pub b: usize,
+    pub outcome: Result<(), Refusal>,
+    pub sizes: Pair<usize>,
 }
 
-// The sets of A and of B.
+// A table, looms and a start that are past 2 to 9: no lookup of theirs is refused.
 #[derive(Clone, Copy)]
-struct Filled {
-    a: u64,
-    b: u64,
+struct Fitted<'a> {
+    table: Table<'a>,
+    looms: &'a [Seat],
+    start: usize,
+    ghost fits: { Fitting table.entries.now table.states looms.now start },
 }
 
-// The sides of eight seats, and their operations.
+// An operation of a table that leads from each state to a state.
 #[derive(Clone, Copy)]
-struct Columns {
-    sides: [usize; 8],
-    operations: [usize; 8],
+struct Operation<'a> {
+    table: Table<'a>,
+    number: usize,
+    ghost leads: { Steps table.entries.now table.states number },
 }
 
-// Whether the certificate is recording over the table: code 0, else the first code that refuses it, with its place. The area has to hold
+// Whether the certificate is recording over the table, else the first code that refuses it, with its place. The area has to hold
 // 2 × 2^n words for n looms; past 2 to 9 and 40 they are filled, whatever the code.
-pub fn check(
-    table: &[u8],
-    states: usize,
-    operations: usize,
-    certificate: Certificate,
-    area: &mut [u64],
-) -> Checked
-    ensures { Checks table.now states operations certificate area.old result area.new }
+pub fn check(table: Table<'_>, certificate: Certificate, area: &mut [u64]) -> Checked
+    ensures { Checks table.entry.entries.now table.entry.states table.entry.operations certificate area.old result area.new }
 {
-    let j = judge(table, states, operations, certificate, area);
+    let judged = judge(table, certificate, area);
     Checked {
-        code: j.code,
-        place: j.place,
-        a: sets::size(j.a),
-        b: sets::size(j.b),
+        outcome: judged.outcome,
+        sizes: Pair {
+            a: sets::size(judged.sets.a),
+            b: sets::size(judged.sets.b),
+        },
     }
 }
 
 // The same with the sets themselves, which opening a group keeps.
-pub fn judge(
-    table: &[u8],
-    states: usize,
-    operations: usize,
-    certificate: Certificate,
-    area: &mut [u64],
-) -> Judged
-    ensures { Judges table.now states operations certificate area.old result area.new }
+pub fn judge(table: Table<'_>, certificate: Certificate, area: &mut [u64]) -> Judged
+    ensures { Judges table.entry.entries.now table.entry.states table.entry.operations certificate area.old result area.new }
 {
-    let f = fault(table, states, operations, certificate, area.len());
-    if f.code != 0 {
+    if let Err(refusal) = fault(table, &certificate, area.len()) {
         return Judged {
-            code: f.code,
-            place: f.place,
-            a: 0,
-            b: 0,
+            outcome: Err(refusal),
+            sets: Pair { a: 0, b: 0 },
         };
     }
-    let filled = fill_both(table, states, certificate, area);
-    verdict_on(certificate, filled.a, filled.b)
+    let looms = &certificate.seats[..certificate.count];
+    let fitted = Fitted {
+        table,
+        looms,
+        start: certificate.start,
+    };
+    let sets = fitted.fill_both(area);
+    Judged {
+        outcome: outcome(certificate.start, looms, sets),
+        sets,
+    }
 }
 
-// Codes 2 to 9 and 40, in that order, with their places; 0 where none applies. `room` is the area's length.
-fn fault(
-    table: &[u8],
-    states: usize,
-    operations: usize,
-    certificate: Certificate,
-    room: usize,
-) -> Formed
-    ensures { result ≡ fault_of table.now states operations certificate room }
+// Codes 2 to 9 and 40, in that order, with their places. `room` is the area's length.
+fn fault(table: Table<'_>, certificate: &Certificate, room: usize) -> Result<(), Refusal>
+    ensures { result ≡ fault_of table.entry.entries.now table.entry.states table.entry.operations certificate.now room }
 {
-    let f = cell::form(table, states, operations);
-    if f.code != 0 {
-        return f;
+    table.form()?;
+    if table.states <= certificate.start {
+        return Err(Code::Start.at(0));
     }
-    if states <= certificate.start {
-        return Formed { code: 6, place: 0 };
-    }
-    looms_fault(operations, certificate, room)
+    looms_fault(table.operations, certificate, room)
 }
 
 // Codes 7 to 9 and 40.
-fn looms_fault(operations: usize, certificate: Certificate, room: usize) -> Formed
-    ensures { result ≡ looms_fault operations certificate room }
+fn looms_fault(operations: usize, certificate: &Certificate, room: usize) -> Result<(), Refusal>
+    ensures { result ≡ looms_fault operations certificate.now room }
 {
     let count = certificate.count;
-    let seats = certificate.seats;
-    if count < 2 {
-        return Formed { code: 7, place: 0 };
+    if count < 2 || cell::LOOMS < count {
+        return Err(Code::Looms.at(0));
     }
-    if cell::LOOMS < count {
-        return Formed { code: 7, place: 0 };
+    let looms = &certificate.seats[..count];
+    if let Some(k) = first_misfit(operations, looms) {
+        return Err(Code::Seat.at(k));
     }
-    let k = first_misfit(operations, seats, count);
-    if k < count {
-        return Formed { code: 8, place: k };
-    }
-    if side_count(A, seats, count) == 0 {
-        return Formed { code: 9, place: 0 };
-    }
-    if side_count(B, seats, count) == 0 {
-        return Formed { code: 9, place: 0 };
+    if side_count(A, looms) == 0 || side_count(B, looms) == 0 {
+        return Err(Code::LacksSide.at(0));
     }
     if room < 2 * power(count) {
-        return Formed { code: 40, place: 0 };
+        return Err(Code::NoRoom.at(0));
     }
-    Formed { code: 0, place: 0 }
+    Ok(())
 }
 
-// The lowest loom with a side above 1 or an operation that the cell lacks, or the number of looms.
-fn first_misfit(operations: usize, seats: [Seat; 8], count: usize) -> usize
-    requires { count ≤ edition.looms }
-    ensures { result ≡ first_misfit operations (take count seats) }
+// The lowest loom with a side above 1 or an operation that the cell lacks.
+fn first_misfit(operations: usize, looms: &[Seat]) -> Option<usize>
+    ensures { result ≡ lowest_misfit operations looms.now }
 {
-    let mut k = 0;
-    while k < count {
-        let seat = seats[k];
-        if misfit(operations, seat) {
-            return k;
-        }
-        k += 1;
-    }
-    k
+    looms.iter().position(|&seat| misfit(operations, seat))
 }
 
 // Whether a seat's side is above 1, or its operation not one of the cell's.
 fn misfit(operations: usize, seat: Seat) -> bool
     ensures { result ≡ misfit_of operations seat }
 {
-    if 1 < seat.side {
-        return true;
-    }
-    operations <= seat.operation
+    1 < seat.side || operations <= seat.operation
 }
 
 // How many looms are of a side.
-fn side_count(side: usize, seats: [Seat; 8], count: usize) -> usize
-    requires { count ≤ edition.looms }
-    ensures { result ≡ side_count side (take count seats) }
+fn side_count(side: usize, looms: &[Seat]) -> usize
+    ensures { result ≡ side_count side looms.now }
 {
-    let mut found = 0;
-    let mut k = 0;
-    while k < count {
-        let seat = seats[k];
-        found += same(seat.side, side);
-        k += 1;
-    }
-    found
-}
-
-// 1 where two side numbers are the same, else 0.
-fn same(a: usize, b: usize) -> usize
-    ensures { (result ≡ one (eqb a b)) × (result ≤ 1) }
-{
-    if a == b { 1 } else { 0 }
+    looms.iter().filter(|seat| seat.side == side).count()
 }
 
 // The number of sets of so many looms.
@@ -211,232 +165,118 @@ fn power(count: usize) -> usize
     1 << count
 }
 
-// The seats by column: a loop that is lent a column reads one entry of it, where an array by value would be copied for each.
-fn by_column(seats: [Seat; 8]) -> Columns
-    ensures { result ≡ columns_of seats }
-{
-    let mut sides = [0; 8];
-    let mut operations = [0; 8];
-    let mut k = 0;
-    while k < cell::LOOMS {
-        let seat = seats[k];
-        sides[k] = seat.side;
-        operations[k] = seat.operation;
-        k += 1;
+impl<'a> Fitted<'a> {
+    // Writes the words of A and then those of B to the area, and answers the two sets. Later words stay as they were.
+    fn fill_both(self, area: &mut [u64]) -> Pair<u64>
+        requires { 2 * 2 ^ length self.looms.now ≤ length area.old }
+        ensures sets { result ≡ sets_by self.entry.table.entries.now self.entry.table.states self.entry.looms.now self.entry.start }
+        ensures words { area.new
+            ≡ both_words self.entry.table.entries.now self.entry.table.states self.entry.looms.now self.entry.start area.old }
+    {
+        let size = power(self.looms.len());
+        let a = self.fill(A, size, area);
+        let b = self.fill(B, size, &mut area[size..]);
+        Pair { a, b }
     }
-    Columns { sides, operations }
-}
 
-// Writes the words of A and then those of B to the area, and answers the two sets. Later words stay as they were.
-fn fill_both(table: &[u8], states: usize, certificate: Certificate, area: &mut [u64]) -> Filled
-    requires fitting { Fitting table.now states (looms_of certificate) certificate.start }
-    requires counted { length (looms_of certificate) ≡ certificate.count }
-    requires room_enough { room_for certificate.count ≤ length area.old }
-    ensures { (result ≡ sets_by table.now states certificate)
-        × (area.new ≡ words_over table.now states certificate area.old) }
-{
-    let count = certificate.count;
-    let start = certificate.start;
-    let size = power(count);
-    let seats = certificate.seats;
-    let by = by_column(seats);
-    let sides = by.sides;
-    let operations = by.operations;
-    let a = fill(
-        table,
-        states,
-        &sides[..count],
-        &operations[..count],
-        start,
-        A,
-        size,
-        area,
-    );
-    let b = fill(
-        table,
-        states,
-        &sides[..count],
-        &operations[..count],
-        start,
-        B,
-        size,
-        &mut area[size..],
-    );
-    Filled { a, b }
-}
-
-// Writes the words of a side to the first `size` of the area, and answers their union: the side's set.
-fn fill(
-    table: &[u8],
-    states: usize,
-    sides: &[usize],
-    operations: &[usize],
-    start: usize,
-    side: usize,
-    size: usize,
-    area: &mut [u64],
-) -> u64
-    requires fitting { Fitting table.now states (seats_of sides.now operations.now) start }
-    requires as_many { length sides.now ≡ length operations.now }
-    requires sized { (size ≡ 2 ^ length operations.now) × (size ≤ length area.old) }
-    ensures { (result ≡ union_of 0 (words_to table.now states (seats_of sides.now operations.now) start side size))
-        × (area.new ≡ words_to table.now states (seats_of sides.now operations.now) start side size
-        ++ drop size area.old) }
-{
-    let mut set = 0;
-    let mut m = 0;
-    while m < size {
-        let w = word(table, states, sides, operations, start, side, &area[..], m);
-        area[m] = w;
-        set = sets::union(set, w);
-        m += 1;
-    }
-    set
-}
-
-// Word m of a side: what each loom of m adds to it as the last, the lowest loom first. The words below m stand in `earlier`.
-fn word(
-    table: &[u8],
-    states: usize,
-    sides: &[usize],
-    operations: &[usize],
-    start: usize,
-    side: usize,
-    earlier: &[u64],
-    m: usize,
-) -> u64
-    requires fitting { Fitting table.now states (seats_of sides.now operations.now) start }
-    requires as_many { length sides.now ≡ length operations.now }
-    requires within { (m < 2 ^ length operations.now) × (m < length earlier.now) }
-    ensures { result ≡ word_by table.now states (seats_of sides.now operations.now) start side earlier.now m
-        (length operations.now) }
-{
-    let mut set = 0;
-    let mut left = m as u64;
-    while left != 0 {
-        let j = sets::lowest(left);
-        let lone = power(j);
-        let seat = Seat {
-            side: sides[j],
-            operation: operations[j],
-        };
-        set = sets::union(
-            set,
-            last_by(table, states, seat, start, side, earlier, m, lone),
-        );
-        left -= lone as u64;
-    }
-    set
-}
-
-// What a loom of word m adds to it as the last of an order: its first state where m is `lone`, the loom alone, else what the word without
-// it moves to.
-fn last_by(
-    table: &[u8],
-    states: usize,
-    seat: Seat,
-    start: usize,
-    side: usize,
-    earlier: &[u64],
-    m: usize,
-    lone: usize,
-) -> u64
-    requires steps { Steps table.now states seat.operation }
-    requires within { (start < states) × (lone ≤ m) × (1 ≤ lone) × (m < length earlier.now) }
-    ensures { result ≡ added_by table.now states seat start side earlier.now m lone }
-{
-    if m == lone {
-        return first_by(table, states, seat, side, start);
-    }
-    advance(table, states, seat.operation, earlier[m - lone])
-}
-
-// The state after the seat's operation at the start, alone in a set, for a seat of this side; else no state.
-fn first_by(table: &[u8], states: usize, seat: Seat, side: usize, start: usize) -> u64
-    requires steps { Steps table.now states seat.operation }
-    requires within { start < states }
-    ensures { result ≡ first_in table.now states seat side start }
-{
-    if seat.side == side {
-        moved(table, states, seat.operation, start, 0)
-    } else {
-        0
-    }
-}
-
-// The states that those of a set move to by an operation.
-fn advance(table: &[u8], states: usize, operation: usize, set: u64) -> u64
-    requires { Steps table.now states operation }
-    ensures { result ≡ advanced (entry_of table.now states operation) set states }
-{
-    let mut out = 0;
-    let mut q = 0;
-    while q < states {
-        if sets::has(set, q) {
-            out = moved(table, states, operation, q, out);
+    // Writes the words of a side to the first `size` of the area, and answers their union: the side's set.
+    fn fill(self, side: usize, size: usize, area: &mut [u64]) -> u64
+        requires { (size ≡ 2 ^ length self.looms.now) × (size ≤ length area.old) }
+        ensures set { result
+            ≡ union_of 0 (words_to self.entry.table.entries.now self.entry.table.states self.entry.looms.now self.entry.start side size) }
+        ensures words { area.new
+            ≡ words_to self.entry.table.entries.now self.entry.table.states self.entry.looms.now self.entry.start side size
+            ++ drop size area.old }
+    {
+        let mut set = 0;
+        for m in 0..size {
+            let w = self.word(side, area, m);
+            area[m] = w;
+            set = sets::union(set, w);
         }
-        q += 1;
+        set
     }
-    out
-}
 
-// A set with the state after an operation in state q put in.
-fn moved(table: &[u8], states: usize, operation: usize, q: usize, set: u64) -> u64
-    requires steps { Steps table.now states operation }
-    requires within { q < states }
-    ensures { result ≡ bit_or set (2 ^ entry_of table.now states operation q) }
-{
-    match cell::next(table, states, operation, q) {
-        Moved::To(to) => sets::insert(set, to as usize),
-        Moved::Refused => set,
+    // Word m of a side: what each loom of m adds to it as the last, the lowest loom first. The words below m stand in `earlier`.
+    fn word(self, side: usize, earlier: &[u64], m: usize) -> u64
+        requires { (m < 2 ^ length self.looms.now) × (m < length earlier.now) }
+        ensures { result ≡ word_by self.entry.table.entries.now self.entry.table.states self.entry.looms.now self.entry.start side
+            earlier.now m (length self.entry.looms.now) }
+    {
+        let mut set = 0;
+        let mut left = m as u64;
+        // No count: it goes by the ones that are left. (Casts: a usize has no From into a u64.)
+        while left != 0 {
+            let j = sets::lowest(left);
+            let lone = power(j);
+            set = sets::union(set, self.last_by(j, side, earlier, m, lone));
+            left -= lone as u64;
+        }
+        set
+    }
+
+    // What loom j adds to word m as the last of an order: its first state where m is `lone`, the loom alone, else what the word without it
+    // moves to.
+    fn last_by(self, j: usize, side: usize, earlier: &[u64], m: usize, lone: usize) -> u64
+        requires { (j < length self.looms.now) × (1 ≤ lone) × (lone ≤ m) × (m < length earlier.now) }
+        ensures { result ≡ added_by self.entry.table.entries.now self.entry.table.states (get_or self.entry.looms.now j empty_seat)
+            self.entry.start side earlier.now m lone }
+    {
+        let seat = self.looms[j];
+        let operation = Operation {
+            table: self.table,
+            number: seat.operation,
+        };
+        if m != lone {
+            operation.advance(earlier[m - lone])
+        } else if seat.side == side {
+            operation.moved(self.start, 0)
+        } else {
+            0
+        }
     }
 }
 
-// The verdict on a certificate with these two sets.
-fn verdict_on(certificate: Certificate, a: u64, b: u64) -> Judged
-    requires { certificate.count ≤ edition.looms }
-    ensures { result ≡ verdict_on certificate a b }
-{
-    let seats = certificate.seats;
-    let of_a = side_count(A, seats, certificate.count);
-    let of_b = side_count(B, seats, certificate.count);
-    verdict(certificate.start, of_a, of_b, a, b)
+impl<'a> Operation<'a> {
+    // The states that those of a set move to.
+    fn advance(self, set: u64) -> u64
+        ensures { result
+            ≡ advanced (entry_of self.entry.table.entries.now self.entry.table.states self.entry.number) set self.entry.table.states }
+    {
+        let mut out = 0;
+        for q in 0..self.table.states {
+            if sets::has(set, q) {
+                out = self.moved(q, out);
+            }
+        }
+        out
+    }
+
+    // A set with the state after state q put in.
+    fn moved(self, q: usize, set: u64) -> u64
+        requires { q < self.table.states }
+        ensures { result ≡ bit_or set (2 ^ entry_of self.entry.table.entries.now self.entry.table.states self.entry.number q) }
+    {
+        match self.table.next(self.number, q) {
+            Some(to) => sets::insert(set, usize::from(to)),
+            None => set,
+        }
+    }
 }
 
-// Codes 20, 21 and 22, in that order, with their places; 0 where none applies.
-fn verdict(start: usize, of_a: usize, of_b: usize, a: u64, b: u64) -> Judged
-    ensures { result ≡ verdict_of start of_a of_b a b }
+// Codes 20, 21 and 22, in that order, with their places.
+fn outcome(start: usize, looms: &[Seat], sets: Pair<u64>) -> Result<(), Refusal>
+    ensures { result ≡ outcome_of start (side_count 0 looms.now) (side_count 1 looms.now) sets.a sets.b }
 {
-    let shared = sets::common(a, b);
+    let shared = sets::common(sets.a, sets.b);
     if shared != 0 {
-        return Judged {
-            code: 20,
-            place: sets::lowest(shared),
-            a,
-            b,
-        };
-    }
-    if comes_back(start, a, of_b) {
-        return Judged {
-            code: 21,
-            place: start,
-            a,
-            b,
-        };
-    }
-    if comes_back(start, b, of_a) {
-        return Judged {
-            code: 22,
-            place: start,
-            a,
-            b,
-        };
-    }
-    Judged {
-        code: 0,
-        place: 0,
-        a,
-        b,
+        Err(Code::SharedState.at(sets::lowest(shared)))
+    } else if comes_back(start, sets.a, side_count(B, looms)) {
+        Err(Code::ReturnsToA.at(start))
+    } else if comes_back(start, sets.b, side_count(A, looms)) {
+        Err(Code::ReturnsToB.at(start))
+    } else {
+        Ok(())
     }
 }
 
@@ -444,8 +284,5 @@ fn verdict(start: usize, of_a: usize, of_b: usize, a: u64, b: u64) -> Judged
 fn comes_back(start: usize, set: u64, others: usize) -> bool
     ensures { result ≡ comes_back start set others }
 {
-    if sets::has(set, start) {
-        return others != 1;
-    }
-    false
+    sets::has(set, start) && others != 1
 }

@@ -1,17 +1,18 @@
 -- Demand 3, carried to the run: document 01, "Schedules" and "What the contracts owe".
 -- Assumes nothing.
-use Rattle.std.specs.Prelude.{ℕ, ◌≤◌, ◌≡◌, List}
-use Rattle.std.proofs.Common.{arith}
+use Rattle.std.specs.Prelude.{ℕ, ◌≤◌, ◌≡◌, List, Result, Ok}
+use Rattle.std.proofs.Common.{arith, sym, subst}
+use Rattle.codes.specs.declared.Code.{Code}
 use Rattle.recording.specs.declared.Certificate.{Certificate}
 use Rattle.recording.specs.Check.{looms_of}
-use Rattle.loom.specs.declared.Side.{Side}
-use Rattle.loom.specs.declared.Side.TheVariants.{A, B}
+use Rattle.sides.specs.declared.Side.{Side}
+use Rattle.sides.specs.declared.Side.TheVariants.{A, B}
 use Rattle.agreement.specs.Machine.{Event, applied, answered}
 use Rattle.agreement.specs.Agreed.{Agreed, Came, Had, NoneApplied}
 use Rattle.agreement.proofs.LogLaws.{HadAnswer}
-use Rattle.group.specs.declared.Numbers.{Numbers}
+use Rattle.sides.specs.declared.Pair.{Pair}
 use Rattle.group.specs.declared.Group.{Group}
-use Rattle.group.specs.Group.{number_of}
+use Rattle.sides.specs.Sides.{of_side}
 use Rattle.group.specs.Open.{open_of}
 use Rattle.demands.specs.Acts.{history_after, untouched}
 use Rattle.demands.specs.NewlyOpened.{NewlyOpened}
@@ -21,7 +22,7 @@ use Rattle.demands.proofs.DemandThree.{demand_three}
 use Rattle.schedule.specs.declared.Ran.{Ran}
 use Rattle.schedule.specs.Played.{begun, played_of}
 use Rattle.schedule.specs.Run.{run_of}
-use Rattle.schedule.specs.RunLaws.{Unrefused, unrefused}
+use Rattle.schedule.specs.RunLaws.{Unrefused, opened_first, unrefused_first}
 use Rattle.schedule.specs.Counts.{answers_for}
 use Rattle.schedule.specs.Events.{done_by, events_over, answers_in, applications_in}
 use Rattle.schedule.proofs.EventsLaws.{counted_is_had, Alike, alike_at_first, alike_always}
@@ -30,16 +31,16 @@ use Rattle.schedule.proofs.EventsLaws.{counted_is_had, Alike, alike_at_first, al
 pub record RunAgreed (num : Side → ℕ) (r : Ran) (log : List Event) : Type 0 where
   -- Its answers and applications are those of the log.
   pub answers : (s : Side) → answers_for s r ≡ answers_in s log
-  pub applications : r.applied ≡ applications_in log
+  pub applications : r.tally.applied ≡ applications_in log
   -- Not both sides' answers are above 0.
-  pub one_side : 1 ≤ r.a → 1 ≤ r.b → ⊥
+  pub one_side : 1 ≤ r.tally.answers.a → 1 ≤ r.tally.answers.b → ⊥
   -- Where an answer was given, the side is that of the first loom that applied its operation, if any did.
   pub first_applied : (s : Side) → 1 ≤ answers_for s r → (k : ℕ) (t : Side) (older : List Event) → Came (applied k t) older log → NoneApplied older → s ≡ t
   -- The number of each answer is its side's.
   pub its_number : (k : ℕ) (s : Side) (v : ℕ) → Had (answered k s v) log → v ≡ num s
 
 -- From the log's agreement and its counts.
-run_agreed : (num : Side → ℕ) (r : Ran) (log : List Event) → ((s : Side) → answers_for s r ≡ answers_in s log) → r.applied ≡ applications_in log →
+run_agreed : (num : Side → ℕ) (r : Ran) (log : List Event) → ((s : Side) → answers_for s r ≡ answers_in s log) → r.tally.applied ≡ applications_in log →
     Agreed num log → RunAgreed num r log
 run_agreed num r log answers applications agreed =
     record {
@@ -59,24 +60,30 @@ run_agreed num r log answers applications agreed =
     differ : A ≡ B → ⊥
     differ same = let z : ◌≡◌ {A = ℕ} 0 1 = cc in omega arith
 
--- In a run that isn't refused, whatever the schedule.
-pub demand_three_of_run : (table : List ℕ) (states operations : ℕ) (c : Certificate) (numbers : Numbers) (schedule : List ℕ) (room words : ℕ) →
-    (run_of table states operations c numbers schedule room words).code ≡ 0 →
-    RunAgreed (number_of numbers) (run_of table states operations c numbers schedule room words)
-    (events_over table states operations (open_of table states operations c numbers words).group schedule)
-demand_three_of_run table states operations c numbers schedule room words code =
-    rw going.result
-    (run_agreed (number_of numbers) _ _ alike.answers alike.applications
-    (demand_three table states operations c numbers words going.opens (done_by schedule)))
+-- In a run that isn't refused, whatever the schedule: the log is that of the group as it opened.
+pub demand_three_of_run : (table : List ℕ) (states operations : ℕ) (c : Certificate) (numbers : Pair ℕ) (schedule : List ℕ) (room words : ℕ) (run : Ran)
+    (ran : run_of table states operations c numbers schedule room words ≡ Ok run) →
+    RunAgreed (of_side numbers) run
+    (events_over table states operations (opened_first table states operations (open_of table states operations c numbers words) schedule room run ran).0 schedule)
+demand_three_of_run table states operations c numbers schedule room words run ran =
+    subst (λ r. RunAgreed (of_side numbers) r (events_over table states operations g schedule)) (sym going.result)
+    (run_agreed (of_side numbers) _ _ alike.answers alike.applications
+    (demand_three table states operations c numbers words g opens (done_by schedule)))
   where
-    going : Unrefused table states operations (open_of table states operations c numbers words) schedule room
-    going = unrefused table states operations (open_of table states operations c numbers words) schedule room code
+    opened : Result Group Code
+    opened = open_of table states operations c numbers words
 
     g : Group
-    g = (open_of table states operations c numbers words).group
+    g = (opened_first table states operations opened schedule room run ran).0
+
+    opens : opened ≡ Ok g
+    opens = (opened_first table states operations opened schedule room run ran).1
+
+    going : Unrefused table states operations g schedule room run
+    going = unrefused_first table states operations opened schedule room run ran
 
     new : NewlyOpened table states operations c numbers g
-    new = newly_opened table states operations c numbers words going.opens
+    new = newly_opened table states operations c numbers words g opens
 
     alike : Alike table states operations (looms_of c) new.good (played_of table states operations (begun g) schedule)
         (history_after table states operations (done_by schedule) (untouched g))

@@ -1,4 +1,3 @@
-pub mod InPlaceLaws
 pub mod BecameLaws
 pub mod CountsLaws
 pub mod LongestLaws
@@ -7,3 +6,5 @@ pub mod EventsLaws
 pub mod RunCountsLaws
 pub mod RunCounts
 pub mod DemandThreeOfRun
+pub mod InPlaceLaws
+pub mod GoingLaws

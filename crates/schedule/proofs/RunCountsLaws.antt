@@ -8,8 +8,8 @@ use Rattle.recording.specs.declared.Seat.{Seat}
 use Rattle.recording.specs.declared.Certificate.{Certificate}
 use Rattle.recording.specs.Recording.{side_count}
 use Rattle.recording.specs.Check.{looms_of}
-use Rattle.loom.specs.declared.Side.{Side}
-use Rattle.group.specs.declared.Numbers.{Numbers}
+use Rattle.sides.specs.declared.Side.{Side}
+use Rattle.sides.specs.declared.Pair.{Pair}
 use Rattle.group.specs.declared.Group.{Group}
 use Rattle.group.specs.Group.{loom_at}
 use Rattle.demands.specs.Acts.{untouched}
@@ -18,7 +18,7 @@ use Rattle.demands.specs.NewlyOpened.{NewlyOpened}
 use Rattle.demands.proofs.NewlyOpenedLaws.{fits_at_opening, counts_at_most_six}
 use Rattle.schedule.specs.declared.Ran.{Ran}
 use Rattle.schedule.specs.Acts.{act_of, all_named}
-use Rattle.schedule.specs.Played.{begun, with_acted, acted_of, played_of, marks_of}
+use Rattle.schedule.specs.Played.{tallied, begun, with_acted, acted_of, played_of, marks_of}
 use Rattle.schedule.specs.Counts.{answers_for, answer_mark, how_many, count_over, IsLongest, group_after, applied_over}
 use Rattle.schedule.specs.Events.{done_by}
 use Rattle.schedule.proofs.CountsLaws.{steps_over_lem}
@@ -32,13 +32,13 @@ some_loom X [] some = absurd (omega arith)
 some_loom X (l ∷ ls) some = omega arith
 
 -- Every entry is counted.
-entries_over : (table : List ℕ) (states operations : ℕ) (r : Ran) (es : List ℕ) → (played_of table states operations r es).entries ≡ r.entries + length es
-unfolding played_of with_acted
+entries_over : (table : List ℕ) (states operations : ℕ) (r : Ran) (es : List ℕ) → (played_of table states operations r es).tally.entries ≡ r.tally.entries + length es
+unfolding played_of tallied
 entries_over table states operations r [] = omega arith
 entries_over table states operations r (e ∷ es) =
     omega (arith, entries_over table states operations (with_acted r (acted_of table states operations r.group (act_of e))) es)
 
-module _ {table : List ℕ} {states operations : ℕ} {c : Certificate} {numbers : Numbers} {g : Group}
+module _ {table : List ℕ} {states operations : ℕ} {c : Certificate} {numbers : Pair ℕ} {g : Group}
     (new : NewlyOpened table states operations c numbers g) (schedule : List ℕ) (all : all_named g.count schedule ≡ true) where
   abbrev marks : List ℕ
   marks = marks_of table states operations g schedule
@@ -79,14 +79,14 @@ module _ {table : List ℕ} {states operations : ℕ} {c : Certificate} {numbers
   unfolding group_after
   moment = by_case (longest_attained table states operations (looms_of c) new.good schedule (begun g) fits named)
     where
-      by_case : (played.longest ≡ 0) ⊎ Moment table states operations (looms_of c) new.good (begun g) schedule →
+      by_case : (played.tally.longest ≡ 0) ⊎ Moment table states operations (looms_of c) new.good (begun g) schedule →
           Moment table states operations (looms_of c) new.good (begun g) schedule
       by_case (inr some) = some
       by_case (inl none) =
           let first = some_loom 0 (looms_of c) new.recording.some_of_A in
           (0, 0, omega arith, first, new.uncounted 0 first ∙ sym none)
 
-  pub played_longest : IsLongest g.count schedule marks played.longest
+  pub played_longest : IsLongest g.count schedule marks played.tally.longest
   played_longest =
       record {
         bounds =
@@ -99,7 +99,7 @@ module _ {table : List ℕ} {states operations : ℕ} {c : Certificate} {numbers
             (i, k, within, omega (arith, new.seated.count, here), sym (counted_so_far i k here) ∙ same);
       }
 
-  pub played_longest_six : played.longest ≤ 6
+  pub played_longest_six : played.tally.longest ≤ 6
   played_longest_six =
       let (i, k, within, here, same) = moment in
       omega (arith, six_so_far (take i schedule) k here, same)
@@ -107,8 +107,8 @@ module _ {table : List ℕ} {states operations : ℕ} {c : Certificate} {numbers
   pub played_answers : (s : Side) → answers_for s played ≡ how_many (answer_mark s) marks
   played_answers s = omega (arith, answers_over table states operations s (begun g) schedule, none_at_first g s)
 
-  pub played_applied : played.applied ≡ applied_over table states operations g schedule
+  pub played_applied : played.tally.applied ≡ applied_over table states operations g schedule
   played_applied = omega (arith, applied_over_lem table states operations (looms_of c) new.good schedule (begun g) fits named)
 
-  pub played_entries : played.entries ≡ length schedule
+  pub played_entries : played.tally.entries ≡ length schedule
   played_entries = omega (arith, entries_over table states operations (begun g) schedule)

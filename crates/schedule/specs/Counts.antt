@@ -1,24 +1,24 @@
 -- What is counted over a schedule and its marks: document 01, "One loom's steps", "Schedules" and "Forms for parts of the code".
 -- Assumes nothing.
-use Rattle.std.specs.Prelude.{ℕ, ◌+◌, ◌≤◌, ◌<◌, min, ◌≡◌, Bool, true, false, not, cond, ◌&&◌, List, [], ◌∷◌, eqb, length, take}
+use Rattle.std.specs.Prelude.{ℕ, ◌+◌, ◌≤◌, ◌<◌, min, ◌≡◌, Bool, true, false, not, cond, ◌&&◌, List, [], ◌∷◌, Option, Some, None, eqb, length, take}
 use Rattle.recording.specs.Recording.{one}
-use Rattle.loom.specs.declared.Side.{Side}
-use Rattle.loom.specs.declared.Side.TheVariants.{A, B}
+use Rattle.sides.specs.declared.Side.{Side}
+use Rattle.sides.specs.declared.Side.TheVariants.{A, B}
+use Rattle.sides.specs.Sides.{of_side}
 use Rattle.loom.specs.declared.Place.{Place}
-use Rattle.loom.specs.declared.Place.TheVariants.{Begin, Posted, Looking, Ready, Applied, Bound, Answered}
+use Rattle.loom.specs.declared.Place.TheVariants.{Ready}
 use Rattle.loom.specs.Looms.{most_steps}
 use Rattle.group.specs.declared.Group.{Group}
 use Rattle.group.specs.Group.{loom_at}
 use Rattle.schedule.specs.declared.Act.{Act}
-use Rattle.schedule.specs.declared.Act.TheVariants.{Step, Restart, RestartAll, Unknown}
+use Rattle.schedule.specs.declared.Act.TheVariants.{Step, Restart, RestartAll}
 use Rattle.schedule.specs.declared.Ran.{Ran}
 use Rattle.schedule.specs.Acts.{act_of}
 use Rattle.schedule.specs.Played.{acted_of}
 
 -- A run's answers for a side, and the mark of an answer: "1 for an answer with side A, 2 with side B".
 abbrev pub answers_for : Side → Ran → ℕ
-answers_for A r = r.a
-answers_for B r = r.b
+answers_for s r = of_side r.tally.answers s
 
 abbrev pub answer_mark : Side → ℕ
 answer_mark A = 1
@@ -32,11 +32,11 @@ how_many m (n ∷ marks) = one (eqb n m) + how_many m marks
 -- Loom k's steps after an act that was marked m; c is how many there were before it. A step of the loom counts, unless it was refused with
 -- 31, which is mark 3; a restart of it, or of all, begins anew. In a run that isn't refused no step is refused otherwise: 13 has refused
 -- looms that aren't there, and 32 never comes (`always_fits` of `demands`).
-unfoldable pub steps_after : ℕ → Act → ℕ → ℕ → ℕ
-steps_after k (Step j) m c = one (eqb j k && not (eqb m 3)) + c
-steps_after k (Restart j) m c = cond (eqb j k) 0 c
-steps_after k RestartAll m c = 0
-steps_after k Unknown m c = c
+unfoldable pub steps_after : ℕ → Option Act → ℕ → ℕ → ℕ
+steps_after k (Some (Step j)) m c = one (eqb j k && not (eqb m 3)) + c
+steps_after k (Some (Restart j)) m c = cond (eqb j k) 0 c
+steps_after k (Some RestartAll) m c = 0
+steps_after k None m c = c
 
 -- Loom k's steps after a schedule with these marks; c is how many there were before it.
 unfoldable pub steps_over : ℕ → List ℕ → List ℕ → ℕ → ℕ
@@ -56,20 +56,15 @@ pub record IsLongest (n : ℕ) (schedule marks : List ℕ) (longest : ℕ) : Typ
 
 -- Whether a place is ready.
 abbrev pub is_ready : Place → Bool
-is_ready Begin = false
-is_ready Posted = false
-is_ready Looking = false
 is_ready Ready = true
-is_ready Applied = false
-is_ready (Bound s) = false
-is_ready (Answered s) = false
+is_ready _ = false
 
 -- "ready: applies its operation to the cell": whether an act on a group is a step of a loom at ready.
-abbrev pub applies : Group → Act → Bool
-applies g (Step k) = is_ready (loom_at g k).place
-applies g (Restart k) = false
-applies g RestartAll = false
-applies g Unknown = false
+abbrev pub applies : Group → Option Act → Bool
+applies g (Some (Step k)) = is_ready (loom_at g k).place
+applies g (Some (Restart k)) = false
+applies g (Some RestartAll) = false
+applies g None = false
 
 module _ (table : List ℕ) (states operations : ℕ) where
   -- The group after a schedule.

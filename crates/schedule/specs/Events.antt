@@ -1,22 +1,22 @@
 -- A schedule's acts as the demands have them, and the events that it leaves: document 01, "Schedules" and "What the contracts owe".
 -- Assumes nothing.
-use Rattle.std.specs.Prelude.{ℕ, ◌+◌, List, [], ◌∷◌}
+use Rattle.std.specs.Prelude.{ℕ, ◌+◌, List, [], ◌∷◌, Option, Some, None}
 use Rattle.recording.specs.Recording.{one}
-use Rattle.loom.specs.declared.Side.{Side}
-use Rattle.loom.specs.Sides.{same_side}
+use Rattle.sides.specs.declared.Side.{Side}
+use Rattle.sides.specs.Sides.{same_side}
 use Rattle.agreement.specs.Machine.{Event, posted, applied, answered}
 use Rattle.group.specs.declared.Group.{Group}
 use Rattle.demands.specs.Acts.{Act as Done, loom_steps, loom_restarts, all_restart, events_after}
 use Rattle.schedule.specs.declared.Act.{Act}
-use Rattle.schedule.specs.declared.Act.TheVariants.{Step, Restart, RestartAll, Unknown}
+use Rattle.schedule.specs.declared.Act.TheVariants.{Step, Restart, RestartAll}
 use Rattle.schedule.specs.Acts.{act_of}
 
 -- The act of an entry, before the acts of the later ones. An entry that names no act does nothing.
-abbrev pub done_before : Act → List Done → List Done
-done_before (Step k) later = loom_steps k ∷ later
-done_before (Restart k) later = loom_restarts k ∷ later
-done_before RestartAll later = all_restart ∷ later
-done_before Unknown later = later
+abbrev pub done_before : Option Act → List Done → List Done
+done_before (Some (Step k)) later = loom_steps k ∷ later
+done_before (Some (Restart k)) later = loom_restarts k ∷ later
+done_before (Some RestartAll) later = all_restart ∷ later
+done_before None later = later
 
 -- The acts of a schedule.
 unfoldable pub done_by : List ℕ → List Done

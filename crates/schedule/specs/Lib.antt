@@ -3,7 +3,6 @@ pub mod Played
 pub mod InPlace
 pub mod Run
 pub mod Counts
-pub mod ActsLaws
 pub mod PlayedLaws
 pub mod RunLaws
 pub mod Only

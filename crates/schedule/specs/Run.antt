@@ -1,11 +1,14 @@
 -- A run with its refusals: document 01, "Schedules" and "Codes and their order".
 -- Assumes nothing.
-use Rattle.std.specs.Prelude.{ℕ, ◌≤◌, ◌≡◌, true, cond, List, ◌++◌, ltb, eqb, length, drop}
+use Rattle.std.specs.Prelude.{ℕ, ◌≤◌, ◌≡◌, true, cond, List, ◌++◌, Result, Ok, Err, ltb, length, drop}
+use Rattle.std.specs.Result.{result_and, result_map_both, result_unwrap_or}
+use Rattle.codes.specs.declared.Code.{Code}
+use Rattle.codes.specs.declared.Code.TheVariants.{Schedule, Act, NoRoom}
 use Rattle.cell.specs.Limits.{edition}
 use Rattle.recording.specs.declared.Certificate.{Certificate}
 use Rattle.recording.specs.Check.{area_of}
-use Rattle.group.specs.declared.Numbers.{Numbers}
-use Rattle.group.specs.declared.Opened.{Opened}
+use Rattle.sides.specs.declared.Pair.{Pair}
+use Rattle.group.specs.declared.Group.{Group}
 use Rattle.group.specs.Open.{no_group, open_of}
 use Rattle.schedule.specs.declared.Ran.{Ran}
 use Rattle.schedule.specs.Acts.{all_named}
@@ -13,48 +16,58 @@ use Rattle.schedule.specs.Played.{begun, played_of, marks_of}
 
 -- "12: schedule over 4,096 entries. 13: an entry naming no act or no loom of this group. [...] then 40 for the buffer." `room` is the
 -- buffer's length.
-unfoldable pub refusal_of : ℕ → List ℕ → ℕ → ℕ
+unfoldable pub refusal_of : ℕ → List ℕ → ℕ → Result (Unit {0}) Code
 refusal_of count schedule room =
-    cond (ltb edition.entries (length schedule)) 12 (cond (all_named count schedule) (cond (ltb room (length schedule)) 40 0) 13)
+    cond (ltb edition.entries (length schedule)) (Err Schedule)
+    (cond (all_named count schedule) (cond (ltb room (length schedule)) (Err NoRoom) (Ok tt)) (Err Act))
 
--- What code 0 says of a schedule, for a group of so many looms and a buffer of that length.
+-- What it says of a schedule that nothing refuses it, for a group of so many looms and a buffer of that length.
 pub record Playable (count : ℕ) (schedule : List ℕ) (room : ℕ) : Type 0 where
   pub short : length schedule ≤ edition.entries
   pub named : all_named count schedule ≡ true
   pub room_enough : length schedule ≤ room
 
 -- "Running: opening, 12, 13, then 40 for the buffer."
-unfoldable pub code_of : Opened → List ℕ → ℕ → ℕ
-code_of opened schedule room = cond (eqb opened.code 0) (refusal_of opened.group.count schedule room) opened.code
+abbrev pub code_of : Result Group Code → List ℕ → ℕ → Result (Unit {0}) Code
+code_of (Ok g) schedule room = refusal_of g.count schedule room
+code_of (Err code) schedule room = Err code
 
--- "A refused opening or run returns zeros and no looms."
-abbrev pub unrun : ℕ → Ran
-unrun code = record { code = code; group = no_group; entries = 0; a = 0; b = 0; applied = 0; longest = 0 }
+-- The group that is run, where none of these refuses it.
+abbrev pub started : Result Group Code → List ℕ → ℕ → Result Group Code
+started opened schedule room = result_and (code_of opened schedule room) opened
+
+-- "A refused opening or run returns zeros and no looms": what there is to show of a refused run, and of any.
+abbrev pub unrun : Ran
+unrun = begun no_group
+
+abbrev pub shown : Result Ran Code → Ran
+shown ran = result_unwrap_or ran unrun
 
 module _ (table : List ℕ) (states operations : ℕ) where
   -- What a run comes to, from what the opening came to.
-  unfoldable pub ran_of : Opened → List ℕ → ℕ → Ran
+  abbrev pub ran_of : Result Group Code → List ℕ → ℕ → Result Ran Code
   ran_of opened schedule room =
-      cond (eqb (code_of opened schedule room) 0) (played_of table states operations (begun opened.group) schedule) (unrun (code_of opened schedule room))
+      result_map_both (λ g. played_of table states operations (begun g) schedule) (λ code. code) (started opened schedule room)
 
   -- The buffer afterwards: "one byte an entry [...]. Later bytes stay." "A refusal writes nothing to lent memory."
-  unfoldable pub marked_of : Opened → List ℕ → List ℕ → List ℕ
+  abbrev pub marked_of : Result Group Code → List ℕ → List ℕ → List ℕ
   marked_of opened schedule marks =
-      cond (eqb (code_of opened schedule (length marks)) 0)
-      (marks_of table states operations opened.group schedule ++ drop (length schedule) marks)
+      result_unwrap_or
+      (result_map_both (λ g. marks_of table states operations g schedule ++ drop (length schedule) marks) (λ code. code)
+      (started opened schedule (length marks)))
       marks
 
 -- "A run opens the group afresh": the result of a run and its buffer afterwards. `room` is the buffer's length, `words` the area's.
-abbrev pub run_of : List ℕ → ℕ → ℕ → Certificate → Numbers → List ℕ → ℕ → ℕ → Ran
+abbrev pub run_of : List ℕ → ℕ → ℕ → Certificate → Pair ℕ → List ℕ → ℕ → ℕ → Result Ran Code
 run_of table states operations c numbers schedule room words =
     ran_of table states operations (open_of table states operations c numbers words) schedule room
 
-abbrev pub buffer_of : List ℕ → ℕ → ℕ → Certificate → Numbers → List ℕ → List ℕ → ℕ → List ℕ
+abbrev pub buffer_of : List ℕ → ℕ → ℕ → Certificate → Pair ℕ → List ℕ → List ℕ → ℕ → List ℕ
 buffer_of table states operations c numbers schedule marks words =
     marked_of table states operations (open_of table states operations c numbers words) schedule marks
 
 -- What a run leaves: its result, the buffer, and the area as the check leaves it.
-pub record RunsTo (table : List ℕ) (states operations : ℕ) (c : Certificate) (numbers : Numbers) (schedule marks area : List ℕ) (result : Ran) (buffer after : List ℕ) : Type 0 where
+pub record RunsTo (table : List ℕ) (states operations : ℕ) (c : Certificate) (numbers : Pair ℕ) (schedule marks area : List ℕ) (result : Result Ran Code) (buffer after : List ℕ) : Type 0 where
   pub result_is : result ≡ run_of table states operations c numbers schedule (length marks) (length area)
   pub buffer_is : buffer ≡ buffer_of table states operations c numbers schedule marks (length area)
   pub area_is : after ≡ area_of table states operations c area

@@ -8,11 +8,7 @@ ghost use Rattle.sets.specs.Sets.{has_of, Union, Common, Inserted, size_of, lowe
 pub fn has(set: u64, state: usize) -> bool
     ensures { result ≡ has_of set state }
 {
-    if state < 64 {
-        (set >> state) % 2 == 1
-    } else {
-        false
-    }
+    state < 64 && (set >> state) % 2 == 1
 }
 
 // The states of either set.
@@ -36,23 +32,16 @@ pub fn insert(set: u64, state: usize) -> u64
     if state < 64 { set | (1 << state) } else { set }
 }
 
-// How many states the set has.
+// How many states the set has. (std counts in a `u32`, which has no From into a `usize`; so below.)
 pub fn size(set: u64) -> usize
     ensures { result ≡ size_of word_bits set }
 {
-    wide(u64::count_ones(set))
+    set.count_ones() as usize
 }
 
-// The lowest state of the set, and 64, which no state has, of the empty set.
+// The lowest state of the set, and 64, which no state has, of the empty set: document 01's count of zeros, and no Option, for C.
 pub fn lowest(set: u64) -> usize
     ensures { result ≡ lowest_of word_bits set }
 {
-    wide(u64::trailing_zeros(set))
-}
-
-// A count of digits, as a number of states.
-fn wide(count: u32) -> usize
-    ensures { result ≡ count }
-{
-    count as usize
+    set.trailing_zeros() as usize
 }

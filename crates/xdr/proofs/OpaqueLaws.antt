@@ -1,72 +1,108 @@
 -- What an opaque part takes, and what it refuses.
 -- Assumes nothing.
-use Rattle.std.specs.Prelude.{ℕ, zero, suc, ◌+◌, ◌-◌, ◌≤◌, ◌<◌, ◌≡◌, refl, Bool, true, false, ◌&&◌, List, [], leb, length, get_or, take, drop}
-use Rattle.std.proofs.Common.{sub-one, arith, sym, ap, ◌∙◌, leb-false, le-leb}
+use Rattle.std.specs.Prelude.{ℕ, zero, suc, ◌+◌, ◌≤◌, ◌<◌, ◌≡◌, refl, Bool, true, false, List, [], IsTrue, ◌↔◌, leb, length, get_or, take, drop, Ok, Err}
+use Rattle.std.proofs.Common.{add-zero, get_or-take, get_or-drop, arith, sym, ap, ◌∙◌, leb-true, leb-false, le-leb}
+use Rattle.std.proofs.Math.Bool.{and-eq-true_iff}
 use Rattle.std.proofs.lemmas.Bool.{lt-leb}
-use Rattle.xdr.specs.declared.Field.TheVariants.{Is, Not}
+use Rattle.std.proofs.lemmas.List.{length-drop, get_or_default}
+use Rattle.std.proofs.Math.Seq.{length-take-le}
+use Rattle.std.specs.List.{AllPass}
+use Rattle.codes.specs.declared.Code.{Code}
+use Rattle.codes.specs.declared.Code.TheVariants.{FileEnds}
+use Rattle.codes.specs.Codes.{refused_at}
+use Rattle.xdr.specs.Field.{anything}
 use Rattle.xdr.specs.FieldLaws.{Taken, judged_takes, judged_refuses, judged_ends, judged_taken}
-use Rattle.xdr.specs.Opaque.{pad_of, padded, all, part_of, opaque_at}
+use Rattle.xdr.specs.Opaque.{pad_of, padded, all, part_of, past_at, opaque_at}
 
 -- A longer part has no fewer bytes with its pad bytes.
 pub padded_grows : (n m : ℕ) → n ≤ m → padded n ≤ padded m
 unfolding pad_of
 padded_grows n m h = omega arith
 
--- No bytes pass every test; some pass if the first does, and the rest.
-pub all_none : (ok : ℕ → Bool) (s : List ℕ) (n p : ℕ) → n ≤ 0 → all ok s n p ≡ true
+-- All pass exactly if each does.
+pub all_pass : (ok : ℕ → Bool) (s : List ℕ) (n p : ℕ) → ((j : ℕ) → j < n → ok (get_or s (p + j) 0) ≡ true) → all ok s n p ≡ true
 unfolding all
-all_none ok s zero p h = refl
-all_none ok s (suc k) p h = absurd (omega arith)
+all_pass ok s zero p each = refl
+all_pass ok s (suc k) p each =
+    let first : ok (get_or s p 0) ≡ true = rw add-zero at (each 0 (omega arith)) in
+    let rest = all_pass ok s k (p + 1) (λ j l. let e : p + 1 + j ≡ p + (j + 1) = omega arith in rw e (each (j + 1) (omega arith))) in
+    simp (first, rest)
 
-pub all_first : (ok : ℕ → Bool) (s : List ℕ) (n p : ℕ) → 0 < n → all ok s n p ≡ ok (get_or s p 0) && all ok s (n - 1) (p + 1)
+pub all_each : (ok : ℕ → Bool) (s : List ℕ) (n p : ℕ) → all ok s n p ≡ true → (j : ℕ) → j < n → ok (get_or s (p + j) 0) ≡ true
 unfolding all
-all_first ok s zero p h = absurd (omega arith)
-all_first ok s (suc k) p h = rw sub-one
+all_each ok s zero p h j l = absurd (omega arith)
+all_each ok s (suc k) p h zero l = rw add-zero ((and-eq-true_iff (ok (get_or s p 0)) _).0 h).0
+all_each ok s (suc k) p h (suc j) l =
+    let e : p + suc j ≡ p + 1 + j = omega arith in rw e (all_each ok s k (p + 1) ((and-eq-true_iff (ok (get_or s p 0)) _).0 h).1 j (omega arith))
 
-module _ (ok : ℕ → Bool) (s : List ℕ) (n p : ℕ) (some : 0 < n) where
-  pub all_refuses : ok (get_or s p 0) ≡ false → all ok s n p ≡ false
-  all_refuses h = all_first ok s n p some ∙ simp h
+-- What is true exactly if each byte of the part passes is that test.
+same_truth : (a b : Bool) → (a ≡ true → b ≡ true) → (b ≡ true → a ≡ true) → a ≡ b
+same_truth true b f g = sym (f refl)
+same_truth false true f g = g refl
+same_truth false false f g = refl
 
-  pub all_more : ok (get_or s p 0) ≡ true → all ok s n p ≡ all ok s (n - 1) (p + 1)
-  all_more h = all_first ok s n p some ∙ simp h
+pub all_is : (ok : ℕ → Bool) (s : List ℕ) (n p : ℕ) (b : Bool) → p + n ≤ length s → (IsTrue b ↔ AllPass ok (take n (drop p s))) → b ≡ all ok s n p
+all_is ok s n p b inside h =
+    let size : length (take n (drop p s)) ≡ n = length-take-le n (drop p s) (omega (arith, length-drop {A = ℕ})) in
+    let byte : (j d : ℕ) → j < n → get_or (take n (drop p s)) j d ≡ get_or s (p + j) 0 =
+    λ j d l. get_or-take n (drop p s) j d l ∙ get_or-drop p s j d ∙ get_or_default s (p + j) d 0 (omega arith) in
+    same_truth b (all ok s n p) (λ t. all_pass ok s n p (λ j l. ap ok (sym (byte j 0 l)) ∙ h.0 t j 0 (rw size l)))
+    (λ t. h.1 (λ j d l. let l' : j < n = rw size at l in ap ok (byte j d l') ∙ all_each ok s n p t j l'))
 
 -- What an opaque part takes, what it refuses, and what is known of one that is taken.
-module _ (ok : ℕ → Bool) (code : ℕ) (s : List ℕ) (n p : ℕ) where
-  pub opaque_takes : leb (p + padded n) (length s) ≡ true → all ok s n p ≡ true → opaque_at ok code s n p ≡ Is (p + padded n)
+module _ (ok : ℕ → Bool) (code : Code) (s : List ℕ) (n p : ℕ) where
+  pub opaque_takes : leb (p + padded n) (length s) ≡ true → all ok s n p ≡ true → opaque_at ok code s n p ≡ Ok (p + padded n)
   unfolding opaque_at
   opaque_takes = judged_takes (leb (p + padded n) (length s)) (all ok s n p) (p + padded n) code p
 
-  pub opaque_refuses : leb (p + padded n) (length s) ≡ true → all ok s n p ≡ false → opaque_at ok code s n p ≡ Not code p
+  pub opaque_refuses : leb (p + padded n) (length s) ≡ true → all ok s n p ≡ false → opaque_at ok code s n p ≡ Err (refused_at code p)
   unfolding opaque_at
   opaque_refuses = judged_refuses (leb (p + padded n) (length s)) (all ok s n p) (p + padded n) code p
 
-  pub opaque_ends : leb (p + padded n) (length s) ≡ false → opaque_at ok code s n p ≡ Not 1 p
+  pub opaque_ends : leb (p + padded n) (length s) ≡ false → opaque_at ok code s n p ≡ Err (refused_at FileEnds p)
   unfolding opaque_at
   opaque_ends = judged_ends (leb (p + padded n) (length s)) (all ok s n p) (p + padded n) code p
 
-  pub opaque_taken : (u : ℕ) → opaque_at ok code s n p ≡ Is u → Taken (leb (p + padded n) (length s)) (all ok s n p) (p + padded n) u
+  pub opaque_taken : (u : ℕ) → opaque_at ok code s n p ≡ Ok u → Taken (leb (p + padded n) (length s)) (all ok s n p) (p + padded n) u
   unfolding opaque_at
   opaque_taken u = judged_taken (leb (p + padded n) (length s)) (all ok s n p) (p + padded n) code p u
 
 -- The same of a part whose pad bytes have been counted.
-module _ (ok : ℕ → Bool) (code : ℕ) (s : List ℕ) (n p pads : ℕ) (e : pads ≡ pad_of n) where
+module _ (ok : ℕ → Bool) (code : Code) (s : List ℕ) (n p pads : ℕ) (e : pads ≡ pad_of n) where
   after : p + n + pads ≡ p + padded n
   after = omega arith
 
-  pub part_takes : leb (p + n + pads) (length s) ≡ true → all ok s n p ≡ true → Is (p + n + pads) ≡ opaque_at ok code s n p
-  part_takes f t = ap Is after ∙ sym (opaque_takes ok code s n p (rw after at f) t)
+  pub part_takes : leb (p + n + pads) (length s) ≡ true → all ok s n p ≡ true → opaque_at ok code s n p ≡ Ok (p + n + pads)
+  part_takes f t = opaque_takes ok code s n p (rw after at f) t ∙ ap Ok (sym after)
 
-  pub part_refuses : leb (p + n + pads) (length s) ≡ true → all ok s n p ≡ false → Not code p ≡ opaque_at ok code s n p
-  part_refuses f t = sym (opaque_refuses ok code s n p (rw after at f) t)
+  pub part_refuses : leb (p + n + pads) (length s) ≡ true → all ok s n p ≡ false → opaque_at ok code s n p ≡ Err (refused_at code p)
+  part_refuses f t = opaque_refuses ok code s n p (rw after at f) t
 
-  pub part_ends : leb (p + n + pads) (length s) ≡ false → Not 1 p ≡ opaque_at ok code s n p
-  part_ends f = sym (opaque_ends ok code s n p (rw after at f))
+  pub part_ends : leb (p + n + pads) (length s) ≡ false → opaque_at ok code s n p ≡ Err (refused_at FileEnds p)
+  part_ends f = opaque_ends ok code s n p (rw after at f)
 
 -- A part whose bytes run past the file's end, before any pad.
-pub bytes_end : (ok : ℕ → Bool) (code : ℕ) (s : List ℕ) (n p : ℕ) → leb (p + n) (length s) ≡ false → Not 1 p ≡ opaque_at ok code s n p
+pub bytes_end : (ok : ℕ → Bool) (code : Code) (s : List ℕ) (n p : ℕ) → leb (p + n) (length s) ≡ false → opaque_at ok code s n p ≡ Err (refused_at FileEnds p)
 bytes_end ok code s n p f =
     let h : length s < p + n = leb-false (p + n) (length s) f in
-    sym (opaque_ends ok code s n p (lt-leb (p + padded n) (length s) (omega arith)))
+    opaque_ends ok code s n p (lt-leb (p + padded n) (length s) (omega arith))
+
+-- What follows a part lies in the file.
+pub past_taken : (s : List ℕ) (n p u : ℕ) → past_at s n p ≡ Ok u → (p + padded n ≤ length s) × (u ≡ p + padded n)
+unfolding past_at
+past_taken s n p u h =
+    let t = judged_taken true (leb (p + padded n) (length s)) (p + padded n) FileEnds p u h in
+    (leb-true (p + padded n) (length s) t.good, t.value)
+
+-- Every byte passes the test that everything passes, so a part with no test of its own is what follows it.
+pub all_anything : (s : List ℕ) (n p : ℕ) → all anything s n p ≡ true
+unfolding all
+all_anything s zero p = refl
+all_anything s (suc n) p = all_anything s n (p + 1)
+
+pub past_is_opaque : (s : List ℕ) (n p : ℕ) → past_at s n p ≡ opaque_at anything FileEnds s n p
+unfolding past_at opaque_at
+past_is_opaque s n p = rw all_anything
 
 -- A part that lies in the file, and one that doesn't.
 pub part_inside : (s : List ℕ) (p n : ℕ) → p + n ≤ length s → part_of s p n ≡ take n (drop p s)

@@ -1,12 +1,14 @@
 -- What a word, a field, a run and the file's end take, and what they refuse.
 -- Assumes nothing.
-use Rattle.std.specs.Prelude.{ℕ, zero, suc, ◌+◌, ◌-◌, ◌*◌, ◌≤◌, ◌<◌, ◌≡◌, refl, Bool, true, false, List, leb, ltb, length, get_or}
+use Rattle.std.specs.Prelude.{ℕ, zero, suc, ◌+◌, ◌-◌, ◌*◌, ◌^◌, ◌≤◌, ◌<◌, ◌≡◌, refl, Bool, true, false, cond, List, leb, ltb, length, get_or, Ok, Err}
 use Rattle.std.proofs.Common.{zero-mul, suc-mul, sub-one, arith, sym, ap, ◌∙◌, leb-true, ltb-true, le-leb, lt-ltb, le-ltb}
 use Rattle.std.proofs.Math.Bool.{and-eq-true_iff}
 use Rattle.std.proofs.lemmas.Bool.{lt-leb}
-use Rattle.xdr.specs.declared.Field.{Field}
-use Rattle.xdr.specs.declared.Field.TheVariants.{Is, Not}
-use Rattle.xdr.specs.Field.{joined, word_fits, word_at, within, judged, field_at, Passed, and_then, run, end_at}
+use Rattle.codes.specs.declared.Code.{Code}
+use Rattle.codes.specs.declared.Code.TheVariants.{FileEnds}
+use Rattle.codes.specs.declared.Refusal.{Refusal}
+use Rattle.codes.specs.Codes.{refused_at}
+use Rattle.xdr.specs.Field.{Field, joined, word_fits, word_at, within, judged, field_at, Passed, and_then, run, end_at}
 
 -- The word at a position within the file, and past its end.
 pub word_inside : (s : List ℕ) (p : ℕ) → p + 4 ≤ length s
@@ -17,6 +19,15 @@ word_inside s p h = simp (le-leb (p + 4) (length s) h)
 pub word_past : (s : List ℕ) (p : ℕ) → length s < p + 4 → word_at s p ≡ 0
 unfolding word_at
 word_past s p h = simp (lt-leb (p + 4) (length s) h)
+
+-- A word of a file of bytes is below 2 ^ 32, wherever it stands.
+pub word_small : (s : List ℕ) (p : ℕ) → ((i : ℕ) → get_or s i 0 < 256) → word_at s p < 2 ^ 32
+unfolding word_at
+word_small s p bytes = go (word_fits s p)
+  where
+    go : (fits : Bool) → cond fits (joined (get_or s p 0) (get_or s (p + 1) 0) (get_or s (p + 2) 0) (get_or s (p + 3) 0)) 0 < 2 ^ 32
+    go true = omega (arith, bytes p, bytes (p + 1), bytes (p + 2), bytes (p + 3))
+    go false = omega arith
 
 -- A value within limits, below them, at or past their end; and back.
 pub within_takes : (low end v : ℕ) → low ≤ v → v < end → within low end v ≡ true
@@ -37,14 +48,14 @@ within_taken low end v h =
     let parts = (and-eq-true_iff (leb low v) (ltb v end)).0 h in (leb-true low v parts.0, ltb-true v end parts.1)
 
 -- What a judged field takes, and what it refuses: its end past the file's first, then its test.
-module _ (reaches passes : Bool) (v code p : ℕ) where
-  pub judged_takes : reaches ≡ true → passes ≡ true → judged reaches passes v code p ≡ Is v
+module _ (reaches passes : Bool) (v : ℕ) (code : Code) (p : ℕ) where
+  pub judged_takes : reaches ≡ true → passes ≡ true → judged reaches passes v code p ≡ Ok v
   judged_takes f t = simp (f, t)
 
-  pub judged_refuses : reaches ≡ true → passes ≡ false → judged reaches passes v code p ≡ Not code p
+  pub judged_refuses : reaches ≡ true → passes ≡ false → judged reaches passes v code p ≡ Err (refused_at code p)
   judged_refuses f t = simp (f, t)
 
-  pub judged_ends : reaches ≡ false → judged reaches passes v code p ≡ Not 1 p
+  pub judged_ends : reaches ≡ false → judged reaches passes v code p ≡ Err (refused_at FileEnds p)
   judged_ends f = simp f
 
 -- What is known of a judged field that is taken.
@@ -53,52 +64,52 @@ pub record Taken (reaches passes : Bool) (v u : ℕ) : Type 0 where
   pub good : passes ≡ true
   pub value : u ≡ v
 
-pub judged_taken : (reaches passes : Bool) (v code p u : ℕ) → judged reaches passes v code p ≡ Is u → Taken reaches passes v u
+pub judged_taken : (reaches passes : Bool) (v : ℕ) (code : Code) (p u : ℕ) → judged reaches passes v code p ≡ Ok u → Taken reaches passes v u
 judged_taken true true v code p u h = record { inside = refl; good = refl; value = cc }
-judged_taken true false v code p u h = absurd (let z : ◌≡◌ {A = ℕ} 0 1 = cc in omega arith)
-judged_taken false t v code p u h = absurd (let z : ◌≡◌ {A = ℕ} 0 1 = cc in omega arith)
+judged_taken true false v code p u h = cc
+judged_taken false t v code p u h = cc
 
 -- The same of a field: what it takes, what it refuses, and what is known of one that is taken.
-module _ (ok : ℕ → Bool) (code : ℕ) (s : List ℕ) (p : ℕ) where
-  pub field_takes : word_fits s p ≡ true → ok (word_at s p) ≡ true → field_at ok code s p ≡ Is (word_at s p)
+module _ (ok : ℕ → Bool) (code : Code) (s : List ℕ) (p : ℕ) where
+  pub field_takes : word_fits s p ≡ true → ok (word_at s p) ≡ true → field_at ok code s p ≡ Ok (word_at s p)
   unfolding field_at
   field_takes = judged_takes (word_fits s p) (ok (word_at s p)) (word_at s p) code p
 
-  pub field_refuses : word_fits s p ≡ true → ok (word_at s p) ≡ false → field_at ok code s p ≡ Not code p
+  pub field_refuses : word_fits s p ≡ true → ok (word_at s p) ≡ false → field_at ok code s p ≡ Err (refused_at code p)
   unfolding field_at
   field_refuses = judged_refuses (word_fits s p) (ok (word_at s p)) (word_at s p) code p
 
-  pub field_ends : word_fits s p ≡ false → field_at ok code s p ≡ Not 1 p
+  pub field_ends : word_fits s p ≡ false → field_at ok code s p ≡ Err (refused_at FileEnds p)
   unfolding field_at
   field_ends = judged_ends (word_fits s p) (ok (word_at s p)) (word_at s p) code p
 
-  pub field_taken : (u : ℕ) → field_at ok code s p ≡ Is u → Taken (word_fits s p) (ok (word_at s p)) (word_at s p) u
+  pub field_taken : (u : ℕ) → field_at ok code s p ≡ Ok u → Taken (word_fits s p) (ok (word_at s p)) (word_at s p) u
   unfolding field_at
   field_taken u = judged_taken (word_fits s p) (ok (word_at s p)) (word_at s p) code p u
 
   -- a taken field's four bytes lie in the file
-  pub field_inside : (u : ℕ) → field_at ok code s p ≡ Is u → p + 4 ≤ length s
+  pub field_inside : (u : ℕ) → field_at ok code s p ≡ Ok u → p + 4 ≤ length s
   field_inside u h = leb-true (p + 4) (length s) (field_taken u h).inside
 
 -- The same of a field with limits whose value v has been read.
-module _ (low end code : ℕ) (s : List ℕ) (p v : ℕ) (f : word_fits s p ≡ true) (e : v ≡ word_at s p) where
-  pub limits_take : low ≤ v → v < end → Is v ≡ field_at (within low end) code s p
+module _ (low end : ℕ) (code : Code) (s : List ℕ) (p v : ℕ) (f : word_fits s p ≡ true) (e : v ≡ word_at s p) where
+  pub limits_take : low ≤ v → v < end → Ok v ≡ field_at (within low end) code s p
   limits_take l h =
-      ap Is e ∙ sym (field_takes (within low end) code s p f (ap (within low end) (sym e) ∙ within_takes low end v l h))
+      ap Ok e ∙ sym (field_takes (within low end) code s p f (ap (within low end) (sym e) ∙ within_takes low end v l h))
 
-  pub limits_refuse : within low end v ≡ false → Not code p ≡ field_at (within low end) code s p
+  pub limits_refuse : within low end v ≡ false → Err (refused_at code p) ≡ field_at (within low end) code s p
   limits_refuse h = sym (field_refuses (within low end) code s p f (ap (within low end) (sym e) ∙ h))
 
 -- Of two fields in a row both are taken, or the first refusal is given.
-pub then_takes : (f g : Field) (v : ℕ) → f ≡ Is v → and_then f g ≡ g
+pub then_takes : (f g : Field) (v : ℕ) → f ≡ Ok v → and_then f g ≡ g
 then_takes f g v h = simp h
 
-pub then_refuses : (f g : Field) (c p : ℕ) → f ≡ Not c p → and_then f g ≡ Not c p
-then_refuses f g c p h = simp h
+pub then_refuses : (f g : Field) (e : Refusal) → f ≡ Err e → and_then f g ≡ Err e
+then_refuses f g e h = simp h
 
-pub then_taken : (f g : Field) (u : ℕ) → and_then f g ≡ Is u → Passed f × (g ≡ Is u)
-then_taken (Is v) g u h = ((v, refl), h)
-then_taken (Not c p) g u h = absurd (let z : ◌≡◌ {A = ℕ} 0 1 = cc in omega arith)
+pub then_taken : (f g : Field) (u : ℕ) → and_then f g ≡ Ok u → Passed f × (g ≡ Ok u)
+then_taken (Ok v) g u h = ((v, refl), h)
+then_taken (Err e) g u h = cc
 
 pub then_both : (f g : Field) → Passed (and_then f g) → Passed f × Passed g
 then_both f g (u, h) = ((then_taken f g u h).0, (u, (then_taken f g u h).1))
@@ -107,7 +118,7 @@ pub then_passes : (f g : Field) → Passed f → Passed g → Passed (and_then f
 then_passes f g (v, e) (u, h) = (u, then_takes f g v e ∙ h)
 
 -- An empty run is taken; one that isn't empty begins with its first item.
-pub run_none : (item : ℕ → Field) (width n p : ℕ) → n ≤ 0 → run item width n p ≡ Is p
+pub run_none : (item : ℕ → Field) (width n p : ℕ) → n ≤ 0 → run item width n p ≡ Ok p
 unfolding run
 run_none item width zero p h = refl
 run_none item width (suc k) p h = absurd (omega arith)
@@ -118,11 +129,11 @@ run_more item width zero p h = absurd (omega arith)
 run_more item width (suc k) p h = rw sub-one
 
 -- A run goes on after an item that is taken, and stops at one that is refused.
-pub run_goes_on : (item : ℕ → Field) (width n p v : ℕ) → 0 < n → item p ≡ Is v → run item width (n - 1) (p + width) ≡ run item width n p
+pub run_goes_on : (item : ℕ → Field) (width n p v : ℕ) → 0 < n → item p ≡ Ok v → run item width (n - 1) (p + width) ≡ run item width n p
 run_goes_on item width n p v some h = sym (run_more item width n p some ∙ then_takes _ _ v h)
 
-pub run_stops : (item : ℕ → Field) (width n p c q : ℕ) → 0 < n → item p ≡ Not c q → Not c q ≡ run item width n p
-run_stops item width n p c q some h = sym (run_more item width n p some ∙ then_refuses _ _ c q h)
+pub run_stops : (item : ℕ → Field) (width n p : ℕ) (e : Refusal) → 0 < n → item p ≡ Err e → Err e ≡ run item width n p
+run_stops item width n p e some h = sym (run_more item width n p some ∙ then_refuses _ _ e h)
 
 -- item j of the rest is item j + 1 of the run
 next_place : (p j width : ℕ) → p + width + j * width ≡ p + suc j * width
@@ -132,13 +143,13 @@ first_place : (p width : ℕ) → p + zero * width ≡ p
 first_place p width = omega (arith, zero-mul width)
 
 -- What a run takes: each of its items.
-pub run_takes : (item : ℕ → Field) (width n p : ℕ) → ((j : ℕ) → j < n → Passed (item (p + j * width))) → run item width n p ≡ Is (p + n * width)
+pub run_takes : (item : ℕ → Field) (width n p : ℕ) → ((j : ℕ) → j < n → Passed (item (p + j * width))) → run item width n p ≡ Ok (p + n * width)
 unfolding run
-run_takes item width zero p h = ap Is (sym (first_place p width))
+run_takes item width zero p h = ap Ok (sym (first_place p width))
 run_takes item width (suc k) p h =
     let first = h zero (omega arith) in
     let rest : (j : ℕ) → j < k → Passed (item (p + width + j * width)) = λ j l. rw (next_place p j width) (h (suc j) (omega arith)) in
-    then_takes (item p) _ first.0 (rw first_place at first.1) ∙ run_takes item width k (p + width) rest ∙ ap Is (next_place p k width)
+    then_takes (item p) _ first.0 (rw first_place at first.1) ∙ run_takes item width k (p + width) rest ∙ ap Ok (next_place p k width)
 
 -- What is known of a run that is taken: each item is, and what follows the run stands after the last.
 both_places : (item : ℕ → Field) (width k p : ℕ) → Passed (item p) → ((j : ℕ) → j < k → Passed (item (p + width + j * width)))
@@ -146,7 +157,7 @@ both_places : (item : ℕ → Field) (width k p : ℕ) → Passed (item p) → (
 both_places item width k p first rest zero l = rw (first_place p width) first
 both_places item width k p first rest (suc j) l = rw (← next_place p j width) (rest j (omega arith))
 
-pub run_taken : (item : ℕ → Field) (width n p u : ℕ) → run item width n p ≡ Is u
+pub run_taken : (item : ℕ → Field) (width n p u : ℕ) → run item width n p ≡ Ok u
     → ((j : ℕ) → j < n → Passed (item (p + j * width))) × (u ≡ p + n * width)
 unfolding run
 run_taken item width zero p u h = ((λ j l. absurd (omega arith)), (let e : p ≡ u = cc in sym e ∙ sym (first_place p width)))
@@ -156,10 +167,10 @@ run_taken item width (suc k) p u h =
     (both_places item width k p parts.0 rest.0, rest.1 ∙ next_place p k width)
 
 -- The file's end.
-pub end_takes : (code : ℕ) (s : List ℕ) (p : ℕ) → length s ≤ p → end_at code s p ≡ Is p
+pub end_takes : (code : Code) (s : List ℕ) (p : ℕ) → length s ≤ p → end_at code s p ≡ Ok p
 unfolding end_at
 end_takes code s p h = simp (le-leb (length s) p h)
 
-pub end_taken : (code : ℕ) (s : List ℕ) (p u : ℕ) → end_at code s p ≡ Is u → length s ≤ p
+pub end_taken : (code : Code) (s : List ℕ) (p u : ℕ) → end_at code s p ≡ Ok u → length s ≤ p
 unfolding end_at
 end_taken code s p u h = leb-true (length s) p (judged_taken true (leb (length s) p) p code p u h).good

@@ -1,70 +1,70 @@
-// A small format over a lent file: the word at a position, a field with its limits, an opaque part with its pad bytes.
+// A small format over a lent file: the word at a position, a field with its rule, an opaque part with its pad bytes.
 #![tactic(auto)]
 
-ghost use Rattle.std.specs.Prelude.{◌≡◌, ◌+◌, ◌≤◌, ◌<◌, ◌^◌, length, leb};
-ghost use Rattle.xdr.specs.Field.{joined, word_at, within, field_at, end_at};
-ghost use Rattle.xdr.specs.Opaque.{pad_of, all, part_of, opaque_at};
+ghost use Rattle.std.specs.Prelude.{ℕ, ◌≡◌, ◌+◌, ◌<◌, ◌^◌, Bool, length, leb};
+ghost use Rattle.xdr.specs.Field.{word_at, within, anything, field_at, end_at};
+ghost use Rattle.xdr.specs.Opaque.{pad_of, part_of, past_at, opaque_at};
 
-// What a field gives: its value, or the code of its refusal and the byte where it begins.
-#[derive(Clone, Copy)]
-pub enum Field {
-    Is(usize),
-    Not(u8, usize),
+use codes::{Code, Refusal};
+use std::ops::{Range, RangeFull};
+
+// What a field's value, or each byte of an opaque part, has to keep.
+pub trait Rule: Drop {
+    ghost allows: { Self → ℕ → Bool };
+
+    fn allows(&self, value: usize) -> bool
+        ensures { result ≡ allows self.now value };
+}
+
+// From the range's start to below its end.
+impl Rule for Range<usize> {
+    ghost allows = { λ range. within range.start range.end };
+
+    fn allows(&self, value: usize) -> bool {
+        self.contains(&value)
+    }
+}
+
+// Anything.
+impl Rule for RangeFull {
+    ghost allows = { λ range. anything };
+
+    fn allows(&self, _value: usize) -> bool {
+        true
+    }
 }
 
 // Whether `count` bytes from `at` on lie within `length` bytes.
 pub fn reaches(length: usize, at: usize, count: usize) -> bool
     ensures { result ≡ leb (at + count) length }
 {
-    if at <= length {
-        if count <= length - at {
-            return true;
-        }
-    }
-    false
+    at <= length && count <= length - at
 }
 
-// A byte, as a number of the machine.
-fn wide(byte: u8) -> usize
-    ensures { (result ≡ byte) × (result < 256) }
-{
-    byte as usize
-}
-
-// Four bytes as one word, the highest first.
-fn join(a: u8, b: u8, c: u8, d: u8) -> usize
-    ensures { (result ≡ joined a b c d) × (result < 2 ^ 32) }
-{
-    wide(a) * 16777216 + wide(b) * 65536 + wide(c) * 256 + wide(d)
-}
-
-// The word at a position; 0 where the file ends before it does.
+// The word at a position; 0 where the file ends before it does, since the plan of any file stands on it. The test isn't `reaches`, which
+// took a quarter longer over the longest file. (A u32 has no From into a usize.)
+#[tactic(auto, unfolding(crate::specs::Field::word_at))]
 pub fn word_at(file: &[u8], at: usize) -> usize
     ensures { (result ≡ word_at file.now at) × (result < 2 ^ 32) }
 {
-    if file.len() < 4 {
+    if file.len() < 4 || file.len() - 4 < at {
         return 0;
     }
-    if file.len() - 4 < at {
-        return 0;
-    }
-    join(file[at], file[at + 1], file[at + 2], file[at + 3])
+    u32::from_be_bytes([file[at], file[at + 1], file[at + 2], file[at + 3]]) as usize
 }
 
-// The field at a position: refused with 1 where the file ends before it does, with `code` where its value isn't from `low` to below `end`.
-pub fn field_at(file: &[u8], at: usize, low: usize, end: usize, code: u8) -> Field
-    ensures { result ≡ field_at (within low end) code file.now at }
+// The field at a position: refused with code 1 where the file ends before it does, with `code` where its value breaks the rule.
+pub fn field_at<R: Rule>(file: &[u8], at: usize, rule: R, code: Code) -> Result<usize, Refusal>
+    ensures { result ≡ field_at (R.allows rule) code file.now at }
 {
-    if reaches(file.len(), at, 4) {
-        let value = word_at(file, at);
-        if low <= value {
-            if value < end {
-                return Field::Is(value);
-            }
-        }
-        Field::Not(code, at)
+    if !reaches(file.len(), at, 4) {
+        return Err(Code::FileEnds.at(at));
+    }
+    let value = word_at(file, at);
+    if rule.allows(value) {
+        Ok(value)
     } else {
-        Field::Not(1, at)
+        Err(code.at(at))
     }
 }
 
@@ -75,67 +75,56 @@ pub fn pad(count: usize) -> usize
     (4 - count % 4) % 4
 }
 
-// Whether `count` bytes from `at` on are all from `low` to below `end`.
-fn all_within(file: &[u8], at: usize, count: usize, low: u8, end: u8) -> bool
-    requires { at + count ≤ length file.now }
-    ensures { result ≡ all (within low end) file.now count at }
+// What follows `count` bytes from `at` on and their pad bytes. Refused with code 1 where the file ends before they do.
+pub fn past_at(file: &[u8], at: usize, count: usize) -> Result<usize, Refusal>
+    ensures { result ≡ past_at file.now count at }
 {
-    let mut p = at;
-    let mut left = count;
-    while 0 < left {
-        let byte = file[p];
-        if byte < low {
-            return false;
-        }
-        if end <= byte {
-            return false;
-        }
-        p += 1;
-        left -= 1;
+    let pads = pad(count);
+    if reaches(file.len(), at, count) && reaches(file.len(), at + count, pads) {
+        Ok(at + count + pads)
+    } else {
+        Err(Code::FileEnds.at(at))
     }
-    true
 }
 
-// The bytes of an opaque part with its pad bytes, and what follows them. Refused with 1 where the file ends before they do, with `code`
-// where a byte isn't from `low` to below `end`; pad bytes are stepped over.
-pub fn opaque_at(file: &[u8], at: usize, count: usize, low: u8, end: u8, code: u8) -> Field
-    ensures { result ≡ opaque_at (within low end) code file.now count at }
+// The bytes of an opaque part with its pad bytes, and what follows them. Refused with code 1 where the file ends before they do, with
+// `code` where a byte breaks the rule; pad bytes are stepped over.
+pub fn opaque_at<R: Rule>(
+    file: &[u8],
+    at: usize,
+    count: usize,
+    rule: R,
+    code: Code,
+) -> Result<usize, Refusal>
+    ensures { result ≡ opaque_at (R.allows rule) code file.now count at }
 {
-    if reaches(file.len(), at, count) {
-        let rest = at + count;
-        let pads = pad(count);
-        if reaches(file.len(), rest, pads) {
-            if all_within(file, at, count, low, end) {
-                return Field::Is(rest + pads);
-            }
-            return Field::Not(code, at);
-        }
+    let next = past_at(file, at, count)?;
+    let part = &file[at..at + count];
+    if part.iter().all(|&byte| rule.allows(usize::from(byte))) {
+        Ok(next)
+    } else {
+        Err(code.at(at))
     }
-    Field::Not(1, at)
 }
 
 // `count` bytes from `at` on, as a part of the file; the empty part where the file ends before they do.
 pub fn part_at(file: &[u8], at: usize, count: usize) -> &[u8]
     ensures { result.now ≡ part_of file.now at count }
 {
-    if at <= file.len() {
-        if count <= file.len() - at {
-            &file[at..at + count]
-        } else {
-            &file[..0]
-        }
+    if reaches(file.len(), at, count) {
+        &file[at..at + count]
     } else {
         &file[..0]
     }
 }
 
 // The file's end: refused with `code` at the first extra byte.
-pub fn end_at(file: &[u8], at: usize, code: u8) -> Field
+pub fn end_at(file: &[u8], at: usize, code: Code) -> Result<usize, Refusal>
     ensures { result ≡ end_at code file.now at }
 {
     if file.len() <= at {
-        Field::Is(at)
+        Ok(at)
     } else {
-        Field::Not(code, at)
+        Err(code.at(at))
     }
 }

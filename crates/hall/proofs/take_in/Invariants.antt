@@ -1,9 +1,9 @@
--- Each turn reads at least one byte, within the room.
-use Rattle.std.proofs.Common.{length, ◌-◌, ◌≡◌, ◌≤◌}
+-- `hall::take_in` meets its contract: what has been read lies within the room.
+use Rattle.std.specs.Prelude.{◌-◌, ◌≤◌, length}
 use Rattle.hall.proofs.take_in.Given as goal
 
 abbrev pub invariant-loop-n : goal.invariant-loop-n
-invariant-loop-n g l = (l.n ≤ length l.initial.room) × (length l.room ≡ length l.initial.room)
+invariant-loop-n g l = l.n ≤ length l.room
 
 abbrev pub decreases-loop-n : goal.decreases-loop-n
-decreases-loop-n g l = length l.initial.room - l.n
+decreases-loop-n g l = length l.room - l.n

@@ -1,52 +1,91 @@
--- `order::read` meets its contract: the rooms first, then the file; what is copied is what was judged.
-use native.Mathlib.Omega.{arith}
-use mathlib.Core.List.{List}
-use mathlib.Core.Path.{◌≡◌, sym, ap, ◌∙◌}
-use Prim.Native.Nat.{ℕ}
+-- The rooms first, then the file; what is copied is what was judged.
+use Rattle.std.specs.Prelude.{ℕ, ◌+◌, ◌*◌, ◌≤◌, ◌≡◌, List, ◌++◌, length, take, drop, Err}
+use Rattle.std.proofs.Common.{sym, ap, ◌∙◌, arith, rules}
+use Rattle.std.proofs.Math.Seq.{length-take-le}
 use Rattle.cell.specs.Limits.{edition}
-use Rattle.format.specs.declared.Judgement.{Judgement}
-use Rattle.format.specs.Format.{verdict_of, judgement_of}
-use Rattle.format.specs.Layout.{plan_of}
-use Rattle.order.specs.OrderLaws.{short_table, short_schedule, rooms_suffice, refused_reads}
-use Rattle.order.proofs.ReadLaws.{file_bounds, reads}
+use Rattle.codes.specs.declared.Code.TheVariants.{NoRoom}
+use Rattle.codes.specs.Codes.{refused_at}
+use Rattle.order.specs.Order.{reading_of, accepted_of}
+use Rattle.order.specs.OrderLaws.{lows_at, rooms_suffice, refused_reads}
+use Rattle.order.proofs.ReadLaws.{refused_by, file_bounds, file_small, reads}
 use Rattle.order.proofs.read.Goals as goal
 
--- The judgement's plan and verdict are the file's.
-plan_is : (s : List ℕ) {j : Judgement} → j ≡ judgement_of edition s → j.plan ≡ plan_of s
-plan_is s is = ap (λ (k : Judgement). k.plan) is
+-- The entries of a table that is taken are no more than fit, and so are the schedule's: their part of the room is as long as they are many.
+abbrev table_size : ℕ
+table_size = edition.states * edition.operations
 
-verdict_is : (s : List ℕ) {j : Judgement} → j ≡ judgement_of edition s → verdict_of edition s ≡ j.verdict
-verdict_is s is = sym (ap (λ (k : Judgement). k.verdict) is)
+taken_whole : (n : ℕ) (room : List ℕ) (most : ℕ) → n ≤ most → most ≤ length room → length (take n room) ≡ n
+taken_whole n room most few enough = length-take-le n room (omega arith)
 
 pub returns-then-table-lt-TABLE : goal.returns-then-table-lt-TABLE
-returns-then-table-lt-TABLE c = rw c.refused.ensures (refused_reads _ _ _ _ _ _ (short_table _ _ _ _ c.if-table-lt-TABLE.true))
+unfolding reading_of
+returns-then-table-lt-TABLE c =
+    let a = c.args in
+    let short : reading_of edition a.file.now (length a.table.now) (length a.schedule.now) ≡ Err (refused_at NoRoom 0) = search rules in
+    rw c.at.ensures (refused_reads edition a.file.now a.table.now a.schedule.now _ short)
 
-pub returns-then-schedule-lt-ENTRIES : goal.returns-then-schedule-lt-ENTRIES
-returns-then-schedule-lt-ENTRIES c =
-    rw c.refused-then-schedule-lt-ENTRIES.ensures
-    (refused_reads _ _ _ _ _ _ (short_schedule _ _ _ _ c.if-table-lt-TABLE.false c.if-schedule-lt-ENTRIES.true))
+pub returns-in_err-plan : goal.returns-in_err-plan
+returns-in_err-plan c =
+    let a = c.args in
+    let e : c.from_residual.result ≡ Err c.in_err-plan.field-0.0 = search rules in
+    let verdict = refused_by _ _ _ c.in_err-plan.ensures.judged in
+    rw e
+    (refused_reads edition a.file.now a.table.now a.schedule.now _
+    (rooms_suffice _ _ _ _ c.if-table-lt-TABLE.false c.if-schedule-lt-ENTRIES.false ∙ verdict))
 
-pub returns-in-Not : goal.returns-in-Not
-returns-in-Not c =
-    rw c.refused-in-Not.ensures
-    (refused_reads _ _ _ _ _ _
-    (rooms_suffice _ _ _ _ c.if-table-lt-TABLE.false c.if-schedule-lt-ENTRIES.false ∙ (verdict_is c.args.file.now c.judge-judged.ensures.0 ∙ c.in-Not.is)))
+pub slice_bounds-fill-end : goal.slice_bounds-fill-end
+slice_bounds-fill-end c = omega (arith, (file_bounds _ _ c.in_ok-plan.ensures.judged).size)
+
+pub slice_bounds-fill-end-2 : goal.slice_bounds-fill-end-2
+slice_bounds-fill-end-2 c = sym (taken_whole _ _ table_size (file_bounds _ _ c.in_ok-plan.ensures.judged).size c.if-table-lt-TABLE.false)
 
 pub fill-requires : goal.fill-requires
 fill-requires c =
-    let B = file_bounds _ _ _ (plan_is c.args.file.now c.judge-judged.ensures.0) (verdict_is c.args.file.now c.judge-judged.ensures.0 ∙ c.in-Is.is) in
-    (omega (arith, B.size), omega (arith, B.size))
+    let B = file_bounds _ _ c.in_ok-plan.ensures.judged in rw (taken_whole _ _ table_size B.size c.if-table-lt-TABLE.false) (omega (arith, B.size))
+
+pub overflow_add-plan : goal.overflow_add-plan
+overflow_add-plan c = omega (arith, (file_small _ _ c.in_ok-plan.ensures.judged).schedule)
+
+pub slice_bounds-fill-end-3 : goal.slice_bounds-fill-end-3
+slice_bounds-fill-end-3 c = omega (arith, (file_bounds _ _ c.in_ok-plan.ensures.judged).count)
+
+pub slice_bounds-fill-end-4 : goal.slice_bounds-fill-end-4
+slice_bounds-fill-end-4 c = sym (taken_whole _ _ edition.entries (file_bounds _ _ c.in_ok-plan.ensures.judged).count c.if-schedule-lt-ENTRIES.false)
 
 pub fill-requires-2 : goal.fill-requires-2
 fill-requires-2 c =
-    let B = file_bounds _ _ _ (plan_is c.args.file.now c.judge-judged.ensures.0) (verdict_is c.args.file.now c.judge-judged.ensures.0 ∙ c.in-Is.is) in
-    (omega (arith, B.count, c.if-schedule-lt-ENTRIES.false), omega (arith, B.count, c.judge-judged.ensures.1.schedule))
+    let B = file_bounds _ _ c.in_ok-plan.ensures.judged in
+    let small = file_small _ _ c.in_ok-plan.ensures.judged in
+    rw (taken_whole _ _ edition.entries B.count c.if-schedule-lt-ENTRIES.false) (omega (arith, B.count, small.schedule))
 
-pub accepted-requires : goal.accepted-requires
-accepted-requires c =
-    (c.judge-judged.ensures.1, (file_bounds _ _ _ (plan_is c.args.file.now c.judge-judged.ensures.0) (verdict_is c.args.file.now c.judge-judged.ensures.0 ∙ c.in-Is.is)).looms)
+pub overflow_add-plan-2 : goal.overflow_add-plan-2
+overflow_add-plan-2 c = omega (arith, (file_small _ _ c.in_ok-plan.ensures.judged).start)
+
+pub seats-requires : goal.seats-requires
+seats-requires c = let B = file_bounds _ _ c.in_ok-plan.ensures.judged in (B.looms, omega (arith, B.looms, (file_small _ _ c.in_ok-plan.ensures.judged).start))
+
+pub overflow_add-result : goal.overflow_add-result
+overflow_add-result c = omega (arith, (file_small _ _ c.in_ok-plan.ensures.judged).numbers)
+
+pub overflow_add-plan-3 : goal.overflow_add-plan-3
+overflow_add-plan-3 c = omega (arith, (file_small _ _ c.in_ok-plan.ensures.judged).numbers)
+
+pub overflow_add-result-2 : goal.overflow_add-result-2
+overflow_add-result-2 c = omega (arith, (file_small _ _ c.in_ok-plan.ensures.judged).rest)
 
 pub returns : goal.returns
+unfolding accepted_of
 returns c =
-    reads _ _ _ (plan_is c.args.file.now c.judge-judged.ensures.0) (verdict_is c.args.file.now c.judge-judged.ensures.0 ∙ c.in-Is.is) _ _ _ _ _
-    c.if-table-lt-TABLE.false c.if-schedule-lt-ENTRIES.false c.accepted.ensures c.fill.ensures c.fill-2.ensures
+    let a = c.args in
+    let P = c.in_ok-plan.plan in
+    let B = file_bounds _ _ c.in_ok-plan.ensures.judged in
+    let enough = c.if-table-lt-TABLE.false in
+    let enough' = c.if-schedule-lt-ENTRIES.false in
+    let table : c.fill.new.room ≡ lows_at a.file.now P.entries 12 =
+    rw (taken_whole _ _ table_size B.size enough) at c.fill.ensures in
+    let schedule : c.fill-2.new.room ≡ lows_at a.file.now P.acts (P.schedule + 4) =
+    rw (taken_whole _ _ edition.entries B.count enough') at c.fill-2.ensures in
+    reads a.file.now P c.in_ok-plan.ensures.judged _ _ _ _ _ enough enough'
+    (rw (c.word_at.ensures.0, c.seats.ensures, c.word_at-2.ensures.0, c.word_at-3.ensures.0))
+    (ap (λ (xs : List ℕ). xs ++ drop P.entries a.table.now) table)
+    (ap (λ (xs : List ℕ). xs ++ drop P.acts a.schedule.now) schedule)

@@ -1,24 +1,22 @@
--- `order::trimmed` meets its contract: what is looked at from the end on are spaces, so that what is left trims as the whole does.
-use native.Mathlib.Omega.{arith}
-use mathlib.Core.Path.{◌≡◌, refl, sym, ◌∙◌}
-use Rattle.order.specs.LabelLaws.{trimmed_space, trimmed_ends, trimmed_none}
+-- What stands past the last byte that isn't a space is spaces.
+use Rattle.std.specs.Prelude.{ℕ, ◌≡◌, ◌≢◌, ◌<◌, length, get_or, take}
+use Rattle.std.proofs.Common.{ap, sym, rules}
+use Rattle.order.specs.Label.{trim_of}
+use Rattle.order.specs.LabelLaws.{trimmed_at, trimmed_all}
 use Rattle.order.proofs.trimmed.Goals as goal
 
-pub loop-n-init : goal.loop-n-init
-loop-n-init c = (omega arith, refl)
+pub returns-in-Some-clause-bytes : goal.returns-in-Some-clause-bytes
+unfolding trim_of
+returns-in-Some-clause-bytes c =
+    let s = c.args.label.now in
+    let inside : c.in-Some.last < length s = search rules in
+    let here : get_or s c.in-Some.last 0 ≢ 32 = search rules in
+    let past : (j : ℕ) → c.in-Some.last < j → j < length s → get_or s j 0 ≡ 32 = search rules in
+    ap (λ (n : ℕ). take n s) (sym (trimmed_at s (length s) c.in-Some.last inside here past))
 
-pub returns-then-label-n-ne32 : goal.returns-then-label-n-ne32
-returns-then-label-n-ne32 c =
-    let l = c.loop-n in
-    (sym (trimmed_ends _ _ c.loop-n-test.true c.if-label-n-ne32.true) ∙ l.invariant.1, l.invariant.0)
-
-pub loop-n-preserved : goal.loop-n-preserved
-loop-n-preserved c =
-    let l = c.loop-n in
-    (omega arith, sym (trimmed_space _ _ c.loop-n-test.true c.if-label-n-ne32.false) ∙ l.invariant.1)
-
-pub returns : goal.returns
-returns c =
-    let l = c.loop-n in
-    let e : l.n ≡ 0 = omega arith in
-    (e ∙ sym (trimmed_none _ _ c.loop-n-test.false) ∙ l.invariant.1, l.invariant.0)
+pub returns-in-None-clause-bytes : goal.returns-in-None-clause-bytes
+unfolding trim_of
+returns-in-None-clause-bytes c =
+    let s = c.args.label.now in
+    let each : (j : ℕ) → j < length s → get_or s j 0 ≡ 32 = search rules in
+    ap (λ (n : ℕ). take n s) (sym (trimmed_all s (length s) each))

@@ -1,56 +1,48 @@
 -- `recording::judge` meets its contract: a refusal leaves the area, and past the refusals both sides are filled and the verdict stands.
-use mathlib.Core.Path.{◌≡◌, sym, ap, ◌∙◌}
-use lib.ListN.{length}
-use Rattle.cell.specs.declared.Formed.{Formed}
-use Rattle.recording.specs.declared.Filled.{Filled}
+use Rattle.std.specs.Prelude.{ℕ, List, ◌++◌, ◌*◌, ◌^◌, ◌≤◌, length, drop}
+use Rattle.std.proofs.Common.{sym, ap, subst, ◌∙◌}
+use Rattle.sides.specs.declared.Pair.{Pair}
 use Rattle.recording.specs.AdmittedLaws.{admitted, counted, fitting}
-use Rattle.recording.specs.Check.{fault_of, judgement, verdict_on}
+use Rattle.recording.specs.Check.{looms_of, judgement, verdict_of, verdict_on}
 use Rattle.recording.specs.CheckLaws.{judged_refused, judged_past, area_refused, area_past}
+use Rattle.recording.specs.Fitting.{words_to}
 use Rattle.recording.proofs.judge.Goals as goal
 
--- What the code finds has no fault, and so what is there has none.
-no_fault : {f g : Formed} → f ≡ g → f.code ≡ 0 → g.code ≡ 0
-no_fault is none = ap (λ (h : Formed). h.code) (sym is) ∙ none
-
-pub returns-then-f-ne0 : goal.returns-then-f-ne0
-returns-then-f-ne0 c =
-    let refused : (fault_of c.args.table.now c.args.states
-    c.args.operations c.args.certificate
-    (length c.args.area.now)).code ≡ 0 → ⊥ = λ none. c.if-f-ne0.true (ap (λ (f : Formed). f.code) c.fault-f.ensures ∙ none) in
-    let args = c.args in
-    let fault = c.fault-f.ensures in
+pub returns-in-Err : goal.returns-in-Err
+returns-in-Err c =
     record {
-      answer_is =
-          ap (λ (f : Formed). judgement f.code f.place 0 0) fault
-          ∙ sym (judged_refused args.table.now args.states args.operations args.certificate (length args.area.now) refused);
-      area_is = sym (area_refused args.table.now args.states args.operations args.certificate args.area.now refused);
+      answer_is = sym (judged_refused _ _ _ _ _ _ (sym c.in-Err.ensures));
+      area_is = sym (area_refused _ _ _ _ _ _ (sym c.in-Err.ensures));
     }
 
-pub fill_both-filled-requires : goal.fill_both-filled-requires
-fill_both-filled-requires c =
-    let past = no_fault c.fault-f.ensures c.if-f-ne0.false in
-    let args = c.args in
-    let ok = admitted args.table.now args.states args.operations args.certificate (length args.area.now) past in record {
-      fitting = fitting args.table.now args.states args.operations args.certificate (length args.area.now) ok;
-      counted = counted args.table.now args.states args.operations args.certificate (length args.area.now) ok;
-      room_enough = ok.enough;
-    }
+pub shared_ref_as_front-looms : goal.shared_ref_as_front-looms
+shared_ref_as_front-looms c = (admitted _ _ _ _ _ (sym c.in_default.ensures)).few
 
-pub verdict_on-requires : goal.verdict_on-requires
-verdict_on-requires c =
-    let past = no_fault c.fault-f.ensures c.if-f-ne0.false in
-    let args = c.args in
-    (admitted args.table.now args.states args.operations args.certificate (length args.area.now) past).few
+pub invariant_of-fitted : goal.invariant_of-fitted
+invariant_of-fitted c = record { fits = fitting _ _ _ _ _ (admitted _ _ _ _ _ (sym c.in_default.ensures)) }
+
+pub fill_both-sets-requires : goal.fill_both-sets-requires
+fill_both-sets-requires c =
+    let ok = admitted _ _ _ _ _ (sym c.in_default.ensures) in
+    subst (λ (n : ℕ). 2 * 2 ^ n ≤ length c.args.area.now) (sym (counted _ _ _ _ _ ok)) ok.enough
 
 pub returns : goal.returns
+unfolding verdict_of
 returns c =
-    let past = no_fault c.fault-f.ensures c.if-f-ne0.false in
     let args = c.args in
-    let filled = c.fill_both-filled.ensures in
+    let table : List ℕ = args.table.entries.now in
+    let states = args.table.states in
+    let looms = looms_of args.certificate in
+    let start = args.certificate.start in
+    let past = sym c.in_default.ensures in
     record {
       answer_is =
-          c.verdict_on.ensures
-          ∙ ap (λ (f : Filled). verdict_on args.certificate f.a f.b) filled.0
-          ∙ sym (judged_past args.table.now args.states args.operations args.certificate (length args.area.now) past);
-      area_is = filled.1 ∙ sym (area_past args.table.now args.states args.operations args.certificate args.area.now past);
+          ap (λ o. judgement o c.fill_both-sets.result.a c.fill_both-sets.result.b) c.outcome.ensures
+          ∙ ap (λ (sets : Pair ℕ). verdict_on args.certificate sets.a sets.b) c.fill_both-sets.ensures.sets
+          ∙ sym (judged_past _ _ _ _ _ past);
+      area_is =
+          c.fill_both-sets.ensures.words
+          ∙ ap (λ (n : ℕ). words_to table states looms start 0 (2 ^ n) ++ words_to table states looms start 1 (2 ^ n) ++ drop (2 * 2 ^ n) args.area.now)
+          (counted _ _ _ _ _ (admitted _ _ _ _ _ past))
+          ∙ sym (area_past _ _ _ _ _ past);
     }

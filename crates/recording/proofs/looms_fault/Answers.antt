@@ -1,54 +1,58 @@
 -- `recording::looms_fault` meets its contract: each way out is one of the laws of 7 to 9 and 40.
-use Prim.Native.Nat.{ℕ, ◌*◌, ◌≤◌, ◌<◌}
-use mathlib.Core.Path.{◌≡◌, sym, ap, subst, ◌∙◌}
-use native.Mathlib.Omega.{arith}
-use lib.Pow.{pow_mono}
-use Rattle.cell.specs.Table.{formed}
-use Rattle.recording.specs.CheckLaws.{fault_few, fault_many, fault_misfit, fault_no_A, fault_no_B, fault_room, fault_none}
+use Rattle.std.specs.Prelude.{ℕ, ◌≤◌, ◌<◌, ◌≡◌, Option, Some, None, Err, length}
+use Rattle.std.proofs.Common.{arith, sym, ap, ◌∙◌}
+use Rattle.codes.specs.declared.Code.TheVariants as codes
+use Rattle.codes.specs.Codes.{refused_at}
+use Rattle.cell.specs.Limits.{edition}
+use Rattle.recording.specs.declared.Certificate.{Certificate}
+use Rattle.recording.specs.Check.{looms_of, lowest_misfit, first_misfit}
+use Rattle.recording.specs.CheckLaws.{as_many, misfit_found, no_misfit, fault_few, fault_many, fault_misfit, fault_no_A, fault_no_B, fault_room, fault_none}
+use Rattle.recording.proofs.looms_fault.Goals.{then-count-lt2-via-then-count-lt2, then-count-lt2-via-else-count-lt2+then-count-gt-LOOMS, then-side_count-eq0-via-then-side_count-eq0, then-side_count-eq0-via-else-side_count-eq0+then-side_count-eq0-2}
 use Rattle.recording.proofs.looms_fault.Goals as goal
 
-as_far : {count k first : ℕ} → k ≡ first → count ≤ k → count ≤ first
-as_far {count = count} is far = subst (λ (n : ℕ). count ≤ n) is far
+-- the seats are eight, so that the looms are as many as the count says
+module _ (operations : ℕ) (c : Certificate) (few : c.count ≤ edition.looms) (eight : length c.seats ≡ edition.looms) where
+  counted : length (looms_of c) ≡ c.count
+  counted = as_many c.seats c.count (omega arith)
 
-none_neither : {found there : ℕ} → found ≡ there → (found ≡ 0 → ⊥) → there ≡ 0 → ⊥
-none_neither is some none = some (is ∙ none)
+  misfit : {k : ℕ} → Some k ≡ lowest_misfit operations (looms_of c)
+      → (k ≡ first_misfit operations (looms_of c)) × (first_misfit operations (looms_of c) < c.count)
+  misfit found = let there = misfit_found operations (looms_of c) _ found in (there.0, omega (arith, there.0, there.1, counted))
+
+  fitted : ◌≡◌ {A = Option ℕ} None (lowest_misfit operations (looms_of c)) → c.count ≤ first_misfit operations (looms_of c)
+  fitted none = omega (arith, no_misfit operations (looms_of c) none, counted)
 
 pub returns-then-count-lt2 : goal.returns-then-count-lt2
-returns-then-count-lt2 c = sym (fault_few _ _ _ c.if-count-lt2.true)
+returns-then-count-lt2 c =
+    ap Err c.at.ensures
+    ∙ elim c.then-count-lt2.branch [
+      | then-count-lt2-via-then-count-lt2 w ↦ sym (fault_few _ _ _ w.if-count-lt2.true)
+      | then-count-lt2-via-else-count-lt2+then-count-gt-LOOMS w ↦ sym (fault_many _ _ _ w.if-count-lt2.false w.if-count-gt-LOOMS.true)
+    ]
 
-pub returns-then-count-gt-LOOMS : goal.returns-then-count-gt-LOOMS
-returns-then-count-gt-LOOMS c = sym (fault_many _ _ _ c.if-count-lt2.false c.if-count-gt-LOOMS.true)
-
-pub returns-then-k-count : goal.returns-then-k-count
-returns-then-k-count c =
-    ap (formed 8) c.first_misfit-k.ensures
-    ∙ sym (fault_misfit _ _ _ c.if-count-lt2.false c.if-count-gt-LOOMS.false
-    (subst (λ (n : ℕ). n < c.args.certificate.count) c.first_misfit-k.ensures c.if-k-count.true))
+pub returns-in-Some : goal.returns-in-Some
+returns-in-Some c =
+    let there = misfit c.args.operations c.args.certificate.now c.if-count-gt-LOOMS.false (omega arith) c.in-Some.ensures in
+    ap Err (c.at-in-Some.ensures ∙ ap (refused_at codes.Seat) there.0)
+    ∙ sym (fault_misfit _ _ _ c.if-count-lt2.false c.if-count-gt-LOOMS.false there.1)
 
 pub returns-then-side_count-eq0 : goal.returns-then-side_count-eq0
 returns-then-side_count-eq0 c =
-    sym (fault_no_A _ _ _ c.if-count-lt2.false c.if-count-gt-LOOMS.false (as_far c.first_misfit-k.ensures c.if-k-count.false)
-    (sym c.side_count.ensures ∙ c.if-side_count-eq0.true))
-
-pub returns-then-side_count-eq0-2 : goal.returns-then-side_count-eq0-2
-returns-then-side_count-eq0-2 c =
-    sym (fault_no_B _ _ _ c.if-count-lt2.false c.if-count-gt-LOOMS.false (as_far c.first_misfit-k.ensures c.if-k-count.false) (none_neither c.side_count.ensures c.if-side_count-eq0.false)
-    (sym c.side_count-2.ensures ∙ c.if-side_count-eq0-2.true))
-
--- the words for eight looms are few
-pub overflow_mul-power : goal.overflow_mul-power
-overflow_mul-power c =
-    let few : c.args.certificate.count ≤ 8 = c.if-count-gt-LOOMS.false in
-    omega (arith, c.power.ensures, pow_mono few)
+    let fit = fitted c.args.operations c.args.certificate.now c.if-count-gt-LOOMS.false (omega arith) c.in_default.ensures in
+    ap Err c.at-then-side_count-eq0.ensures
+    ∙ elim c.then-side_count-eq0.branch [
+      | then-side_count-eq0-via-then-side_count-eq0 w ↦ sym (fault_no_A _ _ _ c.if-count-lt2.false c.if-count-gt-LOOMS.false fit (omega arith))
+      | then-side_count-eq0-via-else-side_count-eq0+then-side_count-eq0-2 w ↦
+          sym (fault_no_B _ _ _ c.if-count-lt2.false c.if-count-gt-LOOMS.false fit (λ none. omega arith) (omega arith))
+    ]
 
 pub returns-then-room-power : goal.returns-then-room-power
 returns-then-room-power c =
-    sym (fault_room _ _ _ c.if-count-lt2.false c.if-count-gt-LOOMS.false (as_far c.first_misfit-k.ensures c.if-k-count.false)
-    (none_neither c.side_count.ensures c.if-side_count-eq0.false) (none_neither c.side_count-2.ensures c.if-side_count-eq0-2.false)
-    (subst (λ (n : ℕ). c.args.room < n) (ap (λ (n : ℕ). 2 * n) c.power.ensures) c.if-room-power.true))
+    let fit = fitted c.args.operations c.args.certificate.now c.if-count-gt-LOOMS.false (omega arith) c.in_default.ensures in
+    ap Err c.at-then-room-power.ensures
+    ∙ sym (fault_room _ _ _ c.if-count-lt2.false c.if-count-gt-LOOMS.false fit (λ none. omega arith) (λ none. omega arith) (omega arith))
 
 pub returns : goal.returns
 returns c =
-    sym (fault_none _ _ _ c.if-count-lt2.false c.if-count-gt-LOOMS.false (as_far c.first_misfit-k.ensures c.if-k-count.false)
-    (none_neither c.side_count.ensures c.if-side_count-eq0.false) (none_neither c.side_count-2.ensures c.if-side_count-eq0-2.false)
-    (subst (λ (n : ℕ). n ≤ c.args.room) (ap (λ (n : ℕ). 2 * n) c.power.ensures) c.if-room-power.false))
+    let fit = fitted c.args.operations c.args.certificate.now c.if-count-gt-LOOMS.false (omega arith) c.in_default.ensures in
+    sym (fault_none _ _ _ c.if-count-lt2.false c.if-count-gt-LOOMS.false fit (λ none. omega arith) (λ none. omega arith) (omega arith))

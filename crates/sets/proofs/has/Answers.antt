@@ -1,6 +1,6 @@
 -- `sets::has` meets its contract: within the word it reads the digit, and beyond it the digit is 0.
-use mathlib.Core.Path.{refl, sym}
-use borrow.Author.Tests.{ne_eqb}
+use mathlib.Core.Path.{refl, sym, ◌∙◌}
+use borrow.Author.Tests.{le-ltb, ne_eqb}
 use native.Mathlib.Omega.{arith}
 use Rattle.sets.specs.Sets.{bit, word_bits}
 use Rattle.sets.specs.SetsLaws.{bit_beyond}
@@ -13,5 +13,6 @@ returns-then-state-lt64 c = refl
 pub returns-else-state-lt64 : goal.returns-else-state-lt64
 returns-else-state-lt64 c =
     let args = c.args in
-    sym (ne_eqb (bit args.set args.state) 1
+    le-ltb _ _ c.if-state-lt64.false
+    ∙ sym (ne_eqb (bit args.set args.state) 1
     (λ is_one. omega (arith, bit_beyond word_bits args.set args.state c.ranges.set.fits c.if-state-lt64.false)))

@@ -1,37 +1,49 @@
--- `xdr::opaque_at` meets its contract: the two reaches are one, since the pad bytes follow the part's own.
-use Prim.Native.Nat.{◌+◌}
-use lib.ListN.{length}
-use native.Mathlib.Omega.{arith}
-use mathlib.Core.Path.{sym, ◌∙◌}
-use borrow.Author.Tests.{leb-true}
-use Rattle.xdr.proofs.OpaqueLaws.{part_takes, part_refuses, part_ends, bytes_end}
+-- The part lies in the file, so that its bytes are those that are tested.
+use Rattle.std.specs.Prelude.{ℕ, ◌≡◌, ◌≤◌, ◌↔◌, ◌+◌, ◌-◌, Bool, true, false, IsTrue, List, length, take, drop, Ok, Err}
+use Rattle.std.specs.List.{AllPass}
+use Rattle.std.proofs.Common.{sym, ◌∙◌, arith, rules, le-leb}
+use native.Mathlib.Nat.{add-sub_cancel_left}
+use Rattle.codes.specs.declared.Code.{Code}
+use Rattle.codes.specs.Codes.{refused_at}
+use Rattle.xdr.specs.Opaque.{padded, all, past_at, opaque_at}
+use Rattle.xdr.proofs.OpaqueLaws.{all_is, opaque_takes, opaque_refuses, past_taken}
 use Rattle.xdr.proofs.opaque_at.Goals as goal
 
-pub overflow_add-rest : goal.overflow_add-rest
-overflow_add-rest c = let a = c.args in omega (arith, leb-true (a.at + a.count) (length a.file.now) (sym c.reaches.ensures ∙ c.if-reaches.true))
+pub returns-in_err-next : goal.returns-in_err-next
+unfolding past_at opaque_at
+returns-in_err-next g c = search rules
 
-pub all_within-requires : goal.all_within-requires
-all_within-requires c =
+pub overflow_add-part : goal.overflow_add-part
+overflow_add-part g c = omega (arith, (past_taken _ _ _ _ (sym c.in_ok-next.ensures)).0)
+
+pub slice_bounds-part-end : goal.slice_bounds-part-end
+slice_bounds-part-end g c = let inside = past_taken _ _ _ _ (sym c.in_ok-next.ensures) in omega arith
+
+-- The test's answer b is of the bytes in the slice.
+module _ (ok : ℕ → Bool) (code : Code) (s : List ℕ) (n p u : ℕ) (b : Bool) (past : past_at s n p ≡ Ok u)
+    (tested : IsTrue b ↔ AllPass ok (take (p + n - p) (drop p s))) where
+  inside : (p + padded n ≤ length s) × (u ≡ p + padded n)
+  inside = past_taken s n p u past
+
+  all_tested : b ≡ all ok s n p
+  all_tested = all_is ok s n p b (omega (arith, inside.0)) (rw add-sub_cancel_left at tested)
+
+  takes : b ≡ true → Ok u ≡ opaque_at ok code s n p
+  takes good = rw inside.1 (sym (opaque_takes ok code s n p (le-leb (p + padded n) (length s) inside.0) (sym all_tested ∙ good)))
+
+  refuses : b ≡ false → Err (refused_at code p) ≡ opaque_at ok code s n p
+  refuses bad = sym (opaque_refuses ok code s n p (le-leb (p + padded n) (length s) inside.0) (sym all_tested ∙ bad))
+
+pub returns-then-all : goal.returns-then-all
+returns-then-all g c =
     let a = c.args in
-    omega (arith, leb-true (a.at + a.count) (length a.file.now) (sym c.reaches.ensures ∙ c.if-reaches.true))
+    let ok = g.R.Rule.allows a.rule in
+    let tested : IsTrue c.all.result ↔ AllPass ok (take (a.at + a.count - a.at) (drop a.at a.file.now)) = search rules in
+    takes ok a.code a.file.now a.count a.at _ _ (sym c.in_ok-next.ensures) tested c.if-all.true
 
-pub overflow_add-result : goal.overflow_add-result
-overflow_add-result c =
+pub returns : goal.returns
+returns g c =
     let a = c.args in
-    omega (arith, leb-true (a.at + a.count + c.pad-pads.result) (length a.file.now) (sym c.reaches-then-reaches.ensures ∙ c.if-reaches-2.true))
-
-pub returns-then-all_within : goal.returns-then-all_within
-returns-then-all_within c =
-    part_takes _ _ _ _ _ _ c.pad-pads.ensures.0 (sym c.reaches-then-reaches.ensures ∙ c.if-reaches-2.true)
-    (sym c.all_within.ensures ∙ c.if-all_within.true)
-
-pub returns-then-reaches-2 : goal.returns-then-reaches-2
-returns-then-reaches-2 c =
-    part_refuses _ _ _ _ _ _ c.pad-pads.ensures.0 (sym c.reaches-then-reaches.ensures ∙ c.if-reaches-2.true)
-    (sym c.all_within.ensures ∙ c.if-all_within.false)
-
-pub returns-else-reaches-2 : goal.returns-else-reaches-2
-returns-else-reaches-2 c = part_ends _ _ _ _ _ _ c.pad-pads.ensures.0 (sym c.reaches-then-reaches.ensures ∙ c.if-reaches-2.false)
-
-pub returns-else-reaches : goal.returns-else-reaches
-returns-else-reaches c = bytes_end _ _ _ _ _ (sym c.reaches.ensures ∙ c.if-reaches.false)
+    let ok = g.R.Rule.allows a.rule in
+    let tested : IsTrue c.all.result ↔ AllPass ok (take (a.at + a.count - a.at) (drop a.at a.file.now)) = search rules in
+    rw c.at.ensures (refuses ok a.code a.file.now a.count a.at _ _ (sym c.in_ok-next.ensures) tested c.if-all.false)

@@ -15,5 +15,5 @@ returns-then-state-n-2 c =
     let start : args.n + 0 ≡ args.state = omega arith in
     sym (subst (λ (q : ℕ). after_zero args.n q ≡ 0) start (zero_from_start args.n 0))
 
-pub returns : goal.returns
-returns c = sym (zero_of_number _ _ (omega arith))
+pub returns-else-state-n-2 : goal.returns-else-state-n-2
+returns-else-state-n-2 c = sym (zero_of_number _ _ (omega arith))

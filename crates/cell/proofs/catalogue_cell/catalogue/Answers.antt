@@ -1,31 +1,23 @@
--- `cell::catalogue_cell::catalogue` meets its contract: code 0 has room for the table, and any other code leaves the room.
-use Prim.Native.Nat.{ℕ}
-use mathlib.Core.Path.{◌≡◌, sym, subst, subst₂, ◌∙◌}
-use mathlib.Core.List.{List}
-use lib.ListN.{length}
-use Rattle.cell.specs.Catalogue.{catalogue_code, Catalogued}
-use Rattle.cell.specs.CatalogueLaws.{code_says, written_catalogued, refused_catalogued}
+-- `cell::catalogue_cell::catalogue` meets its contract: each way out is one of the code's laws.
+use Rattle.std.specs.Prelude.{ℕ, Ok, List}
+use Rattle.std.proofs.Common.{sym, subst}
+use Rattle.cell.specs.Catalogue.{Catalogued}
+use Rattle.cell.specs.CatalogueLaws.{no_cell_below, no_cell_above, room_too_short, room_enough, written_catalogued, refused_catalogued}
+use Rattle.cell.proofs.catalogue_cell.catalogue.Goals.{then-n-lt2-via-then-n-lt2, then-n-lt2-via-else-n-lt2+then-n-gt-LOOMS}
 use Rattle.cell.proofs.catalogue_cell.catalogue.Goals as goal
 
-pub fill-requires : goal.fill-requires
-fill-requires c =
-    let accepted : catalogue_code c.args.n (length c.args.room.now) ≡ 0 = sym c.refusal-code.ensures ∙ c.if-code-eq0.true in
-    let says = code_says _ _ (accepted) in (says.1, says.2)
+pub returns-then-n-lt2 : goal.returns-then-n-lt2
+returns-then-n-lt2 c =
+    elim c.then-n-lt2.branch [
+      | then-n-lt2-via-then-n-lt2 w ↦ refused_catalogued _ _ _ (no_cell_below _ _ w.if-n-lt2.true)
+      | then-n-lt2-via-else-n-lt2+then-n-gt-LOOMS w ↦ refused_catalogued _ _ _ (no_cell_above _ _ w.if-n-lt2.false w.if-n-gt-LOOMS.true)
+    ]
 
-pub returns-then-code-eq0 : goal.returns-then-code-eq0
-returns-then-code-eq0 c =
-    let accepted : catalogue_code c.args.n (length c.args.room.now) ≡ 0 = sym c.refusal-code.ensures ∙ c.if-code-eq0.true in
-    let args = c.args in
-    subst₂
-    (λ (code : ℕ) (after : List ℕ). Catalogued args.n args.room.now code after)
-    (sym c.if-code-eq0.true)
-    (sym c.fill.ensures)
-    (written_catalogued args.n args.room.now (accepted))
+pub returns-then-room-n : goal.returns-then-room-n
+returns-then-room-n c = refused_catalogued _ _ _ (room_too_short _ _ c.if-n-lt2.false c.if-n-gt-LOOMS.false c.if-room-n.true)
 
-pub returns-else-code-eq0 : goal.returns-else-code-eq0
-returns-else-code-eq0 c =
+pub returns : goal.returns
+returns c =
     let args = c.args in
-    subst
-    (λ (code : ℕ). Catalogued args.n args.room.now code args.room.now)
-    (sym c.refusal-code.ensures)
-    (refused_catalogued args.n args.room.now (λ e. c.if-code-eq0.false (c.refusal-code.ensures ∙ e)))
+    subst (λ (after : List ℕ). Catalogued args.n args.room.now (Ok tt) after) (sym c.fill.ensures)
+    (written_catalogued args.n args.room.now (room_enough _ _ c.if-n-lt2.false c.if-n-gt-LOOMS.false c.if-room-n.false))

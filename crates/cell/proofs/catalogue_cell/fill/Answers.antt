@@ -1,47 +1,24 @@
 -- `cell::catalogue_cell::fill` meets its contract. The invariant: the first i entries are written, and the rest of the room is as it was.
-use Prim.Native.Nat.{ℕ, ◌*◌, ◌<◌}
-use mathlib.Core.Path.{◌≡◌, refl, sym, ap, ◌∙◌}
-use mathlib.Core.List.{List, ◌++◌}
-use native.Mathlib.Numerals.{add-one}
-use native.Mathlib.Omega.{arith}
-use lib.ListN.{get_or, set, take, drop, length-set}
-use borrow.Author.Rules.{rules}
+use Rattle.std.specs.Prelude.{ℕ, ◌*◌, ◌<◌, ◌≡◌, List, ◌++◌, get_or, set, take, drop}
+use Rattle.std.proofs.Common.{sym, ap, ◌∙◌, add-one, arith}
 use Rattle.cell.specs.ListLaws.{written_more, written_all}
 use Rattle.cell.specs.Catalogue.{table_of}
 use Rattle.cell.specs.CatalogueLaws.{table_length, table_entry}
 use Rattle.cell.proofs.catalogue_cell.fill.Goals as goal
 
-pub loop-i-init : goal.loop-i-init
-loop-i-init c = (search rules, refl, refl)
-
-pub bounds-room-i : goal.bounds-room-i
-bounds-room-i c = omega arith
-
-pub overflow_add-i : goal.overflow_add-i
-overflow_add-i c = omega arith
-
-pub loop-i-smaller : goal.loop-i-smaller
-loop-i-smaller c = omega arith
-
 pub loop-i-preserved : goal.loop-i-preserved
 loop-i-preserved c =
     let loop = c.loop-i in
     let n = c.args.n in
-    let within : loop.i < 4 * n = omega arith in (
-      omega arith,
-      ap (set loop.room loop.i) (c.entry.ensures ∙ sym (table_entry n loop.i within))
-          ∙ ap (λ (room : List ℕ). set room loop.i (get_or (table_of n) loop.i 0)) loop.invariant.1
-          ∙ rw add-one (written_more (table_of n) c.args.room.now loop.i (omega (arith, table_length n)) (omega arith)),
-      simp length-set loop.invariant.2,
-    )
-
-pub shape_of-room : goal.shape_of-room
-shape_of-room c = c.loop-i.invariant.2
+    let within : loop.i < 4 * n = omega arith in
+    ap (set loop.room loop.i) (c.entry.ensures ∙ sym (table_entry n loop.i within))
+    ∙ ap (λ (room : List ℕ). set room loop.i (get_or (table_of n) loop.i 0)) loop.invariant
+    ∙ rw add-one (written_more (table_of n) c.args.room.now loop.i (omega (arith, table_length n)) (omega arith))
 
 pub returns : goal.returns
 returns c =
     let loop = c.loop-i in
     let done : loop.i ≡ 4 * c.args.n = omega arith in
-    loop.invariant.1
+    loop.invariant
     ∙ ap (λ (k : ℕ). take k (table_of c.args.n) ++ drop k c.args.room.now) done
     ∙ written_all (table_of c.args.n) c.args.room.now (4 * c.args.n) (table_length c.args.n)

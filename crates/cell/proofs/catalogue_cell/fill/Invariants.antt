@@ -1,13 +1,7 @@
 -- `cell::catalogue_cell::fill` meets its contract. The invariant: the first i entries are written, and the rest of the room is as it was.
-use Prim.Native.Nat.{◌-◌, ◌*◌, ◌≤◌}
-use mathlib.Core.Path.{◌≡◌}
-use mathlib.Core.List.{◌++◌}
-use lib.ListN.{length, take, drop}
+use Rattle.std.specs.Prelude.{◌≡◌, ◌++◌, take, drop}
 use Rattle.cell.specs.Catalogue.{table_of}
 use Rattle.cell.proofs.catalogue_cell.fill.Given as goal
 
 abbrev pub invariant-loop-i : goal.invariant-loop-i
-invariant-loop-i l = (l.i ≤ 4 * l.n) × (l.room ≡ take l.i (table_of l.n) ++ drop l.i l.initial.room) × (length l.room ≡ length l.initial.room)
-
-abbrev pub decreases-loop-i : goal.decreases-loop-i
-decreases-loop-i l = 4 * l.n - l.i
+invariant-loop-i l = l.room ≡ take l.i (table_of l.n) ++ drop l.i l.initial.room

@@ -1,7 +1,0 @@
--- `boundary::of_cell::linuktabay_form_code` meets its contract: it is the library's answer.
-use mathlib.Core.Path.{ap}
-use Rattle.cell.specs.declared.Formed.{Formed}
-use Rattle.boundary.proofs.of_cell.linuktabay_form_code.Goals as goal
-
-pub returns : goal.returns
-returns c = ap (λ (f : Formed). f.code) c.form.ensures

@@ -1,5 +1,0 @@
--- `boundary::of_group::loom_from` meets its contract, field by field.
-use Rattle.boundary.proofs.of_group.loom_from.Goals as goal
-
-pub returns : goal.returns
-returns c = cc

@@ -1,5 +1,0 @@
--- `boundary::of_lent::lead_from` meets its contract: it is the library's answer, as numbers.
-use Rattle.boundary.proofs.of_lent.lead_from.Goals as goal
-
-pub returns : goal.returns
-returns c = cc

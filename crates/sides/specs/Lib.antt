@@ -1,0 +1,3 @@
+pub mod Sides
+pub mod SidesLaws
+pub mod Only
