@@ -38,8 +38,9 @@ at ns i = get_or ns i 0
 abbrev pub slot_from : List ℕ → ℕ → Loom
 slot_from ns i = loom_from (at ns i) (at ns (i + 1)) (at ns (i + 2)) (at ns (i + 3))
 
-abbrev pub shared_from : List ℕ → Shared
-shared_from ns = record { cell = in_byte (at ns 1); registers = record { a = in_half (at ns 2); b = in_half (at ns 3) } }
+-- The shared memory of three numbers.
+abbrev pub shared_from : ℕ → ℕ → ℕ → Shared
+shared_from cell a b = record { cell = in_byte cell; registers = record { a = in_half a; b = in_half b } }
 
 abbrev pub pieces_from : List ℕ → Pair ℕ
 pieces_from ns = record { a = in_half (at ns 4); b = in_half (at ns 5) }
@@ -59,7 +60,7 @@ group_from ns =
       start = in_byte (at ns 6);
       sets = sets_from ns;
       numbers = pieces_from ns;
-      shared = shared_from ns;
+      shared = shared_from (at ns 1) (at ns 2) (at ns 3);
       looms = looms_from ns;
     }
 

@@ -17,10 +17,11 @@ use Rattle.group.specs.declared.Restarted.{Restarted}
 use Rattle.boundary.specs.Numbers.{moved_number, code_number, refusal_number, refusal_place, Catalogues}
 use Rattle.group.specs.Open.{group_or_none}
 use Rattle.boundary.specs.Certificates.{certificate_from, with_checked}
-use Rattle.boundary.specs.Groups.{in_byte, in_half, loom_from, with_group, with_said, Opens, Steps, Restarts}
+use Rattle.boundary.specs.Groups.{in_byte, in_half, loom_from, shared_from, with_group, with_said, Opens, Steps, Restarts}
 use Rattle.boundary.specs.Records.{LentSteps}
 use Rattle.boundary.specs.Readings.{with_reading}
 use Rattle.loom.specs.declared.Loom.{Loom}
+use Rattle.loom.specs.declared.Shared.{Shared}
 use Rattle.loom.specs.declared.Said.{Said}
 use Rattle.reader.specs.Reader.{read_of}
 use Rattle.boundary.specs.Orders.{Reads}
@@ -144,3 +145,6 @@ only-refusal_place answer r s p q = p ∙ sym q
 
 pub only-moved_number : (moved : Option ℕ) (r s : ℕ) → r ≡ moved_number moved → s ≡ moved_number moved → r ≡ s
 only-moved_number moved r s p q = p ∙ sym q
+
+pub only-shared_from : (cell a b : ℕ) (r s : Shared) → r ≡ shared_from cell a b → s ≡ shared_from cell a b → r ≡ s
+only-shared_from cell a b r s p q = p ∙ sym q

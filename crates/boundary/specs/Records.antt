@@ -13,13 +13,13 @@ use Rattle.group.specs.Step.{step_on_of}
 use Rattle.std.specs.Result.{result_unwrap_or}
 use Rattle.loom.specs.declared.Said.TheVariants.{Nothing}
 use Rattle.boundary.specs.Numbers.{code_number}
-use Rattle.boundary.specs.Groups.{in_byte, in_half, at, loom_from, with_said}
+use Rattle.boundary.specs.Groups.{in_byte, in_half, at, loom_from, shared_from, with_said}
 
 abbrev pub lead_from : List ℕ → Lead
 lead_from ns = record { start = in_byte (at ns 0); side = side_from (at ns 1); set = at ns 2; alone = eqb (at ns 3) 1 }
 
 abbrev pub memory_from : List ℕ → Shared
-memory_from ns = record { cell = in_byte (at ns 5); registers = record { a = in_half (at ns 6); b = in_half (at ns 7) } }
+memory_from ns = shared_from (at ns 5) (at ns 6) (at ns 7)
 
 abbrev pub own_from : List ℕ → Loom
 own_from ns = loom_from (at ns 8) (at ns 9) (at ns 10) (at ns 11)

@@ -18,10 +18,7 @@ pub fn code_number<T: Copy>(answer: Result<T, Code>) -> u8
 pub fn refusal_number<T: Copy>(answer: Result<T, Refusal>) -> u8
     ensures { result ≡ refusal_number answer }
 {
-    match answer {
-        Ok(_) => 0,
-        Err(refusal) => refusal.code.into(),
-    }
+    code_number(answer.map_err(|refusal| refusal.code))
 }
 
 // Its place, 0 where nothing is refused.

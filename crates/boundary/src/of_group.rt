@@ -15,7 +15,8 @@ use group::{Group, Told};
 use loom::{Loom, Place, Said, Shared};
 use sides::{Pair, Side};
 
-// A number of C's in a byte.
+// A number of C's in a byte. (Casts, here and in the other floors: C's numbers are words, with no From into what the library has, or from
+// it.)
 pub fn in_byte(n: usize) -> u8
     ensures { result ≡ in_byte n }
 {
@@ -49,15 +50,15 @@ fn slot_from(n: [usize; 41], i: usize) -> Loom
     loom_from(n[i], n[i + 1], n[i + 2], n[i + 3])
 }
 
-// The shared memory of the numbers.
-fn shared_from(n: [usize; 41]) -> Shared
-    ensures { result ≡ shared_from n }
+// The shared memory of three numbers.
+pub fn shared_from(cell: usize, a: usize, b: usize) -> Shared
+    ensures { result ≡ shared_from cell a b }
 {
     Shared {
-        cell: in_byte(n[1]),
+        cell: in_byte(cell),
         registers: Pair {
-            a: in_half(n[2]),
-            b: in_half(n[3]),
+            a: in_half(a),
+            b: in_half(b),
         },
     }
 }
@@ -107,7 +108,7 @@ fn group_from(n: [usize; 41]) -> Group
         start: in_byte(n[6]),
         sets: sets_from(n),
         numbers: pieces_from(n),
-        shared: shared_from(n),
+        shared: shared_from(n[1], n[2], n[3]),
         looms: looms_from(n),
     }
 }

@@ -1,12 +1,12 @@
 // The crate `lent`: a step on a record of its own, lent and altered there.
 ghost use Rattle.std.specs.Prelude.{◌≡◌};
-ghost use Rattle.boundary.specs.Records.{lead_from, memory_from, own_from, with_memory, with_own, LentSteps};
+ghost use Rattle.boundary.specs.Records.{lead_from, own_from, with_memory, with_own, LentSteps};
 
 use crate::numbers::code_number;
-use crate::of_group::{in_byte, in_half, loom_from, with_said};
+use crate::of_group::{in_byte, in_half, loom_from, shared_from, with_said};
 use cell::Table;
 use loom::{Lead, Loom, Said, Shared};
-use sides::{Pair, Side};
+use sides::Side;
 
 // What the loom goes by: start, leading side, its set, and whether the yielding side has one loom.
 fn lead_from(n: [usize; 12]) -> Lead
@@ -17,19 +17,6 @@ fn lead_from(n: [usize; 12]) -> Lead
         side: Side::from(n[1]),
         set: n[2] as u64,
         alone: n[3] == 1,
-    }
-}
-
-// The shared memory of the numbers.
-fn memory_from(n: [usize; 12]) -> Shared
-    ensures { result ≡ memory_from n }
-{
-    Shared {
-        cell: in_byte(n[5]),
-        registers: Pair {
-            a: in_half(n[6]),
-            b: in_half(n[7]),
-        },
     }
 }
 
@@ -51,7 +38,8 @@ fn with_memory(n: [usize; 12], shared: Shared) -> [usize; 12]
     out
 }
 
-// The numbers with a loom's written.
+// The numbers with a loom's written. (Tried as one with `of_group`'s over arrays of any length, by a const parameter: its clauses see such
+// an array otherwise than these, and didn't hold.)
 fn with_own(n: [usize; 12], loom: Loom) -> [usize; 12]
     ensures { result ≡ with_own n loom }
 {
@@ -77,7 +65,7 @@ pub extern "C" fn linuktabay_step_lent(
     let table = Table::new(table, states, operations);
     let n = *own;
     let outcome = lent::stepped_through(
-        memory_from(n),
+        shared_from(n[5], n[6], n[7]),
         lead_from(n),
         in_half(n[4]),
         table,

@@ -17,55 +17,63 @@ pub fn catalogue(n: usize, room: &mut [u8]) -> Result<(), Code>
     if room.len() < 4 * n {
         return Err(Code::NoRoom);
     }
-    fill(n, room);
+    Size { n }.fill(room);
     Ok(())
 }
 
-// Writes the 4n entries of the table, one after the other.
-fn fill(n: usize, room: &mut [u8])
-    requires { (n ≤ edition.looms) × (4 * n ≤ length room.old) }
-    ensures { room.new ≡ table_of n ++ drop (4 * n) room.old }
-{
-    for i in 0..4 * n {
-        room[i] = entry(n, i);
-    }
+// The size of a catalogue cell. With so few looms a state fits in a byte, which is why the casts below stand: a TryFrom would ask again.
+#[derive(Clone, Copy)]
+struct Size {
+    n: usize,
+    ghost few: { n ≤ edition.looms },
 }
 
-// The entry at a place of the table: operation 0 in the first 2n, operation 1 after them.
-fn entry(n: usize, place: usize) -> u8
-    requires { (n ≤ edition.looms) × (place < 4 * n) }
-    ensures { result ≡ entry_at n place }
-{
-    if place < 2 * n {
-        after_zero(n, place)
-    } else {
-        after_one(n, place - 2 * n)
+impl Size {
+    // Writes the 4n entries of the table, one after the other.
+    fn fill(self, room: &mut [u8])
+        requires { 4 * self.n ≤ length room.old }
+        ensures { room.new ≡ table_of self.n ++ drop (4 * self.n) room.old }
+    {
+        for i in 0..4 * self.n {
+            room[i] = self.entry(i);
+        }
     }
-}
 
-// Casts into a byte, here and below: with so few looms a state fits, which is proved, and a TryFrom would ask again.
-// Operation 0: from (A, r) to (B, 0), from (B, 0) to (A, 0), from (B, r) above it no move.
-fn after_zero(n: usize, state: usize) -> u8
-    requires { (n ≤ edition.looms) × (state < 2 * n) }
-    ensures { result ≡ after_zero n state }
-{
-    if state < n {
-        n as u8
-    } else if state == n {
-        0
-    } else {
-        state as u8
+    // The entry at a place of the table: operation 0 in the first 2n, operation 1 after them.
+    fn entry(self, place: usize) -> u8
+        requires { place < 4 * self.n }
+        ensures { result ≡ entry_at self.n place }
+    {
+        if place < 2 * self.n {
+            self.after_zero(place)
+        } else {
+            self.after_one(place - 2 * self.n)
+        }
     }
-}
 
-// Operation 1: up by one; the last (A, r) is the state before (B, 0), so only the last (B, r) goes back.
-fn after_one(n: usize, state: usize) -> u8
-    requires { (n ≤ edition.looms) × (state < 2 * n) }
-    ensures { result ≡ after_one n state }
-{
-    if state + 1 < 2 * n {
-        (state + 1) as u8
-    } else {
-        n as u8
+    // Operation 0: from (A, r) to (B, 0), from (B, 0) to (A, 0), from (B, r) above it no move.
+    fn after_zero(self, state: usize) -> u8
+        requires { state < 2 * self.n }
+        ensures { result ≡ after_zero self.n state }
+    {
+        if state < self.n {
+            self.n as u8
+        } else if state == self.n {
+            0
+        } else {
+            state as u8
+        }
+    }
+
+    // Operation 1: up by one; the last (A, r) is the state before (B, 0), so only the last (B, r) goes back.
+    fn after_one(self, state: usize) -> u8
+        requires { state < 2 * self.n }
+        ensures { result ≡ after_one self.n state }
+    {
+        if state + 1 < 2 * self.n {
+            (state + 1) as u8
+        } else {
+            self.n as u8
+        }
     }
 }

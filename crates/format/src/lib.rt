@@ -3,11 +3,13 @@
 
 ghost use Rattle.std.specs.Prelude.{◌≡◌, ◌+◌, ◌*◌, ◌<◌, ◌^◌, ltb, IfOk};
 ghost use Rattle.cell.specs.Limits.{edition};
+ghost use Rattle.sides.specs.Sides.{side_number};
 ghost use Rattle.recording.specs.Recording.{side_count};
 ghost use Rattle.format.specs.Layout.{Small};
 ghost use Rattle.format.specs.Format.{item_at, width_of, names_act, run_of, seats_at, sides_at, number_at, label_at, judgement_of};
 
 use codes::{Code, Refusal};
+use sides::Side;
 use xdr::Rule;
 
 // Where the parts of a file begin and how long they are, as its words say.
@@ -99,13 +101,14 @@ fn items_at(file: &[u8], at: usize, count: usize, items: Items) -> Result<usize,
 }
 
 // Whether one of `count` looms from `at` on is of a side: by its number, as the file's words have it.
-fn has_side(file: &[u8], at: usize, count: usize, side: usize) -> bool
+fn has_side(file: &[u8], at: usize, count: usize, side: Side) -> bool
     requires { at + 8 * count < 2 ^ 64 }
-    ensures { result ≡ ltb 0 (side_count side (seats_at file.now count at)) }
+    ensures { result ≡ ltb 0 (side_count (side_number side) (seats_at file.now count at)) }
 {
+    let number = usize::from(u8::from(side));
     // A loop: with `any` on the range the proof that false means none didn't close.
     for loom in 0..count {
-        if xdr::word_at(file, at + 8 * loom) == side {
+        if xdr::word_at(file, at + 8 * loom) == number {
             return true;
         }
     }
@@ -117,7 +120,7 @@ fn sides_at(file: &[u8], at: usize, count: usize, place: usize) -> Result<usize,
     requires { at + 8 * count < 2 ^ 64 }
     ensures { result ≡ sides_at (seats_at file.now count at) place }
 {
-    if has_side(file, at, count, 0) && has_side(file, at, count, 1) {
+    if has_side(file, at, count, Side::A) && has_side(file, at, count, Side::B) {
         Ok(place)
     } else {
         Err(Code::LacksSide.at(place))

@@ -13,7 +13,8 @@ use sides::Pair;
 use std::io;
 use std::io::Read;
 
-// One byte more than the longest file: whatever follows, a longer file is refused within it.
+// The buffers, here and below, are fixed: the project has no heap. One byte more than the longest file: whatever follows, a longer file is
+// refused within it.
 const READ: usize = 20649;
 
 // Reads until the room is full or the input ends: how many bytes.

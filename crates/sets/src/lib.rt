@@ -39,7 +39,8 @@ pub fn size(set: u64) -> usize
     set.count_ones() as usize
 }
 
-// The lowest state of the set, and 64, which no state has, of the empty set: document 01's count of zeros, and no Option, for C.
+// The lowest state of the set, and 64, which no state has, of the empty set: the count of zeros that document 01 names, as it is, and no
+// Option (docs/DECISIONS.md).
 pub fn lowest(set: u64) -> usize
     ensures { result ≡ lowest_of word_bits set }
 {

@@ -4,6 +4,7 @@ use Rattle.std.proofs.Common.{arith, sym, ap, subst, ◌∙◌, pow_pos}
 use Rattle.cell.specs.Limits.{edition}
 use Rattle.sets.specs.Sets.{word_bits, lowest_of}
 use Rattle.sets.specs.SetsLaws.{union_is}
+use Rattle.sides.specs.Sides.{side_number}
 use Rattle.recording.specs.Recording.{empty_seat}
 use Rattle.recording.specs.Fitting.{word_by, added_by}
 use Rattle.recording.specs.FittingLaws.{word_more, word_skips}
@@ -58,11 +59,11 @@ loop-left-preserved c =
           (left_behind args.m (length looms) loop.invariant.0 loop.left c.requires.0 (omega (arith, args.self.fits.few_looms)) loop.invariant.2
           c.loop-left-test.true c.lowest-j.result c.lowest-j.ensures),
       union_is loop.set c.last_by.result c.union-set.result c.union-set.ensures
-          ∙ word_more args.self.table.entries.now args.self.table.states looms args.self.start args.side
+          ∙ word_more args.self.table.entries.now args.self.table.states looms args.self.start (side_number args.side)
           args.earlier.now args.m loop.invariant.0 _ loop.set c.last_by.result loom.past loom.has loom.none_between
           loop.invariant.3
           (c.last_by.ensures
-          ∙ ap (added_by args.self.table.entries.now args.self.table.states (get_or looms c.lowest-j.result empty_seat) args.self.start args.side
+          ∙ ap (added_by args.self.table.entries.now args.self.table.states (get_or looms c.lowest-j.result empty_seat) args.self.start (side_number args.side)
           args.earlier.now args.m) c.power-lone.ensures),
     )
 
@@ -74,7 +75,7 @@ returns c =
     let k = loop.invariant.0 in
     let rest : k + (length looms - k) ≡ length looms = omega (arith, loop.invariant.1) in
     loop.invariant.3
-    ∙ sym (word_skips args.self.table.entries.now args.self.table.states looms args.self.start args.side
+    ∙ sym (word_skips args.self.table.entries.now args.self.table.states looms args.self.start (side_number args.side)
     args.earlier.now args.m k (length looms - k)
     (λ i past below. none_left args.m k loop.left loop.invariant.2 c.loop-left-test.false i past))
-    ∙ ap (word_by args.self.table.entries.now args.self.table.states looms args.self.start args.side args.earlier.now args.m) rest
+    ∙ ap (word_by args.self.table.entries.now args.self.table.states looms args.self.start (side_number args.side) args.earlier.now args.m) rest
