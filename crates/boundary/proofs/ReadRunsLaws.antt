@@ -37,6 +37,6 @@ none_refuses s passes room enough =
     rw (
       le-ltb edition.entries (length (words_at s (plan_of s).acts ((plan_of s).schedule + 4))) (omega (arith, long, limits.count)),
       all_named_lem (plan_of s).looms s (plan_of s).acts ((plan_of s).schedule + 4) limits.looms
-          (λ j below. (field_taken (names_act (plan_of s).looms) Act s ((plan_of s).schedule + 4 + j * 4) (acts j below).0 (acts j below).1).good),
+          (λ j below. (field_taken _ (names_act (plan_of s).looms) Act s ((plan_of s).schedule + 4 + j * 4) (acts j below).0 (acts j below).1).good),
       le-ltb room (length (words_at s (plan_of s).acts ((plan_of s).schedule + 4))) (omega (arith, long, enough)),
     )

@@ -2,8 +2,7 @@
 -- Assumes nothing.
 use Rattle.std.specs.Prelude.{ℕ, ◌+◌, ◌≡◌, Option, Some, None, Result, Ok, Err, List, length}
 use Rattle.codes.specs.declared.Code.{Code}
-use Rattle.codes.specs.declared.Refusal.{Refusal}
-use Rattle.codes.specs.Codes.{number_of}
+use Rattle.codes.specs.Codes.{Refusal, number_of}
 use Rattle.cell.specs.Catalogue.{catalogue_code, catalogue_room}
 
 -- A refusal's number, and 0 where nothing is refused.

@@ -9,7 +9,7 @@ use Rattle.recording.specs.declared.Certificate.{Certificate}
 use Rattle.recording.specs.Check.{check_of, area_of}
 use Rattle.group.specs.declared.Group.{Group}
 use Rattle.codes.specs.declared.Code.{Code}
-use Rattle.codes.specs.declared.Refusal.{Refusal}
+use Rattle.codes.specs.Codes.{Refusal}
 use Rattle.schedule.specs.declared.Ran.{Ran}
 use Rattle.order.specs.Label.{by_side, trim_of}
 use Rattle.group.specs.declared.Stepped.{Stepped}

@@ -7,7 +7,7 @@ use Rattle.recording.specs.declared.Seat.{Seat}
 use Rattle.recording.specs.Recording.{empty_seat}
 use Rattle.order.specs.declared.Order.{Order}
 use Rattle.order.specs.declared.Piece.{Piece}
-use Rattle.codes.specs.declared.Refusal.{Refusal}
+use Rattle.codes.specs.Codes.{Refusal}
 use Rattle.boundary.specs.Numbers.{refusal_number, refusal_place}
 use Rattle.order.specs.Order.{reading_of, order_or_zeros, order_of, table_after, schedule_after}
 

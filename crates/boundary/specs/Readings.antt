@@ -1,7 +1,7 @@
 -- What a reader says, as numbers, for C.
 -- Assumes nothing.
 use Rattle.std.specs.Prelude.{ℕ, Result, Ok, Err, List, set}
-use Rattle.codes.specs.declared.Refusal.{Refusal}
+use Rattle.codes.specs.Codes.{Refusal}
 use Rattle.reader.specs.declared.Reading.{Reading}
 use Rattle.boundary.specs.Numbers.{refusal_number}
 

@@ -3,7 +3,7 @@
 use Rattle.std.specs.Prelude.{ℕ, Result, List, ◌++◌, codes, decimal}
 use Rattle.codes.specs.declared.Code.{Code}
 use Rattle.codes.specs.declared.Code.TheVariants.{FileEnds, States, Operations, TableLength, Entry, Start, Looms, Seat, LacksSide, PieceNumber, Label, Schedule, Act, ExtraBytes, SharedState, ReturnsToA, ReturnsToB, NoLoom, HasAnswered, Unfit, NoRoom, NoSuchCell}
-use Rattle.codes.specs.declared.Refusal.{Refusal}
+use Rattle.codes.specs.declared.Refused.{Refused}
 
 -- The table of codes.
 abbrev pub number_of : Code → ℕ
@@ -51,9 +51,12 @@ number_of NoRoom = 40
 -- "no such catalogue cell"
 number_of NoSuchCell = 41
 
--- A refusal: a code and its place.
-abbrev pub refused_at : Code → ℕ → Refusal
+-- A refusal: a code, of whatever kind, and its place; document 01's has a code of the table.
+abbrev pub refused_at : {C : Type 0} → C → ℕ → Refused C
 refused_at code place = record { code = code; place = place }
+
+abbrev pub Refusal : Type 0
+Refusal = Refused Code
 
 -- An answer with nothing to hand back, and a refusal with its place; code 0 is no refusal.
 abbrev pub Verdict : Type 0

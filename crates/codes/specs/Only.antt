@@ -3,8 +3,7 @@
 use Rattle.std.specs.Prelude.{ℕ, ◌≡◌}
 use Rattle.std.proofs.Common.{sym, ◌∙◌}
 use Rattle.codes.specs.declared.Code.{Code}
-use Rattle.codes.specs.declared.Refusal.{Refusal}
-use Rattle.codes.specs.Codes.{number_of, refused_at}
+use Rattle.codes.specs.Codes.{Refusal, number_of, refused_at}
 
 pub only-at : (code : Code) (place : ℕ) (r r' : Refusal) → r ≡ refused_at code place → r' ≡ refused_at code place → r ≡ r'
 only-at code place r r' h k = h ∙ sym k

@@ -33,19 +33,22 @@ pub enum Code {
     NoSuchCell,
 }
 
-// Why, and where.
+// Why, and where: the kind of code is the caller's.
 #[derive(Clone, Copy, Debug, PartialEq, Eq)]
-pub struct Refusal {
-    pub code: Code,
+pub struct Refused<C> {
+    pub code: C,
     pub place: usize,
 }
+
+// A refusal of document 01.
+pub type Refusal = Refused<Code>;
 
 impl Code {
     // The refusal with this code, at a place.
     pub fn at(self, place: usize) -> Refusal
         ensures { result ≡ refused_at self place }
     {
-        Refusal { code: self, place }
+        Refused { code: self, place }
     }
 }
 

@@ -4,7 +4,7 @@ use Rattle.std.specs.Prelude.{ℕ, ◌+◌, ◌*◌, ◌^◌, ◌≤◌, ◌<◌
 use Rattle.std.proofs.Common.{mul-le-mul, arith, sym, subst, inl, inr, ⊎_elim, ltb-true, eqb-true}
 use Rattle.cell.specs.Limits.{Limits, edition, first_restart, entry_of_all}
 use Rattle.codes.specs.declared.Code.{Code}
-use Rattle.xdr.specs.Field.{Field, word_at, within, field_at, Passed, end_at}
+use Rattle.xdr.specs.Field.{Field, word_at, within, field_at, field_with, Passed, end_at, end_with}
 use Rattle.xdr.specs.FieldLaws.{word_small, judged_taken, then_taken, then_both, then_passes, within_taken, field_taken, run_taken, end_taken}
 use Rattle.xdr.specs.Opaque.{pad_of}
 use Rattle.format.specs.declared.Plan.{Plan}
@@ -75,8 +75,8 @@ module _ (L : Limits) (s : List ℕ) (P : Plan) where
       then_passes _ _ head (then_passes _ _ certificate (then_passes _ _ pieces (then_passes _ _ h.schedule (then_passes _ _ h.acts h.end))))
 
 -- What the limits say of a field that passes.
-pub limits : (low end : ℕ) (code : Code) (s : List ℕ) (p : ℕ) → Passed (field_at (within low end) code s p) → (low ≤ word_at s p) × (word_at s p < end)
-limits low end code s p (v, h) = within_taken low end (word_at s p) (field_taken (within low end) code s p v h).good
+pub limits : {C : Type 0} (ends : C) (low end : ℕ) (code : C) (s : List ℕ) (p : ℕ) → Passed (field_with ends (within low end) code s p) → (low ≤ word_at s p) × (word_at s p < end)
+limits ends low end code s p (v, h) = within_taken low end (word_at s p) (field_taken ends (within low end) code s p v h).good
 
 -- one of two tests that hold together by either
 either_cases : (a b : Bool) → a || b ≡ true → (a ≡ true) ⊎ (b ≡ true)
@@ -108,14 +108,14 @@ pub record Bounds (L : Limits) (s : List ℕ) (P : Plan) : Type 0 where
 pub bounds : (L : Limits) (s : List ℕ) → Passes L s (plan_of s) → Bounds L s (plan_of s)
 unfolding plan_of item_at label_at
 bounds L s h =
-    let states = limits _ _ _ s 0 h.states in
-    let operations = limits _ _ _ s 4 h.operations in
-    let size = limits _ _ _ s 8 h.size in
+    let states = limits _ _ _ _ s 0 h.states in
+    let operations = limits _ _ _ _ s 4 h.operations in
+    let size = limits _ _ _ _ s 8 h.size in
     let P = plan_of s in
-    let count = limits _ _ _ s (P.start + 4) h.count in
-    let first = limits _ _ _ s (P.numbers + 8) (then_both (field_at (within 0 (L.label + 1)) Code.Label s (P.numbers + 8)) _ h.label_A).0 in
-    let second = limits _ _ _ s P.rest (then_both (field_at (within 0 (L.label + 1)) Code.Label s P.rest) _ h.label_B).0 in
-    let schedule = limits _ _ _ s P.schedule h.schedule in
+    let count = limits _ _ _ _ s (P.start + 4) h.count in
+    let first = limits _ _ _ _ s (P.numbers + 8) (then_both (field_at (within 0 (L.label + 1)) Code.Label s (P.numbers + 8)) _ h.label_A).0 in
+    let second = limits _ _ _ _ s P.rest (then_both (field_at (within 0 (L.label + 1)) Code.Label s P.rest) _ h.label_B).0 in
+    let schedule = limits _ _ _ _ s P.schedule h.schedule in
     let states_limit : word_at s 0 ≤ L.states = omega arith in
     let operations_limit : word_at s 4 ≤ L.operations = omega arith in
     let entries = (run_taken _ _ _ _ _ h.entries.1).0 in
@@ -123,12 +123,12 @@ bounds L s h =
     record {
       states = states_limit;
       size = omega (arith, mul-le-mul states_limit operations_limit);
-      entries = λ j l. (limits _ _ _ s (12 + j * 4) (entries j l)).1;
+      entries = λ j l. (limits _ _ _ _ s (12 + j * 4) (entries j l)).1;
       looms = omega arith;
       first = omega arith;
       second = omega arith;
       count = omega arith;
-      acts = λ j l. let act = acts j l in act_below P.looms _ (field_taken (names_act P.looms) Code.Act s (P.schedule + 4 + j * 4) act.0 act.1).good;
+      acts = λ j l. let act = acts j l in act_below P.looms _ (field_taken Code.FileEnds (names_act P.looms) Code.Act s (P.schedule + 4 + j * 4) act.0 act.1).good;
       end = end_taken Code.ExtraBytes s _ _ h.end.1;
     }
 
@@ -138,12 +138,12 @@ verdict_bounds L s h = bounds L s (file_taken L s (plan_of s) h)
 
 -- The verdict on a file that is taken is the place where its schedule ends.
 pub verdict_end : (L : Limits) (s : List ℕ) (v : ℕ) → verdict_of L s ≡ Ok v → v ≡ (plan_of s).schedule + 4 + 4 * (plan_of s).acts
-unfolding verdict_of judged_by schedule_of end_at
+unfolding verdict_of judged_by schedule_of end_with
 verdict_end L s v h =
     let pieces = (then_taken (certificate_of L s (plan_of s)) _ v (then_taken (head_of L s) _ v h).1).1 in
     let acts = (then_taken _ _ v (then_taken (pieces_of L s (plan_of s)) _ v pieces).1).1 in
     let end = (then_taken _ _ v acts).1 in
-    (judged_taken true (leb (length s) _) _ Code.ExtraBytes _ v end).value
+    (judged_taken Code.ExtraBytes true (leb (length s) _) _ Code.ExtraBytes _ v end).value
 
 -- The places and counts of a file that is taken are far below the largest position.
 pub verdict_small : (s : List ℕ) → Passed (verdict_of edition s) → Small (plan_of s)

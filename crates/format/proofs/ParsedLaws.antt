@@ -4,7 +4,7 @@ use Rattle.std.specs.Prelude.{ℕ, ◌+◌, ◌*◌, ◌≡◌, refl, true, List
 use Rattle.std.proofs.Common.{arith, ap, ◌∙◌}
 use Rattle.cell.specs.Limits.{Limits}
 use Rattle.codes.specs.declared.Code.{Code}
-use Rattle.codes.specs.declared.Refusal.{Refusal}
+use Rattle.codes.specs.Codes.{Refusal}
 use Rattle.recording.specs.declared.Seat.{Seat}
 use Rattle.xdr.specs.Field.{Field, word_at, within, field_at, and_then, end_at}
 use Rattle.xdr.specs.FieldLaws.{judged_taken, field_taken, run_taken, then_taken}
@@ -58,7 +58,7 @@ abbrev Gives : Field → ℕ → Type 0
 Gives f u = (v : ℕ) → f ≡ Ok v → v ≡ u
 
 field_gives : (ok : ℕ → Bool) (code : Code) (s : List ℕ) (p : ℕ) → Gives (field_at ok code s p) (word_at s p)
-field_gives ok code s p v h = (field_taken ok code s p v h).value
+field_gives ok code s p v h = (field_taken Code.FileEnds ok code s p v h).value
 
 run_gives : (k : Items) (s : List ℕ) (n p : ℕ) → Gives (run_of k s n p) (p + n * width_of k)
 run_gives k s n p v h = (run_taken _ (width_of k) n p v h).1
@@ -67,12 +67,12 @@ label_gives : (L : Limits) (s : List ℕ) (p : ℕ) → Gives (label_at L s p) (
 unfolding label_at
 label_gives L s p v h =
     let both = then_taken (field_at (within 0 (L.label + 1)) Code.Label s p) (opaque_at printing Code.Label s (word_at s p) (p + 4)) v h in
-    let end = opaque_taken printing Code.Label s (word_at s p) (p + 4) v both.1 in
+    let end = opaque_taken Code.FileEnds printing Code.Label s (word_at s p) (p + 4) v both.1 in
     omega (arith, end.value)
 
 sides_give : (seats : List Seat) (p : ℕ) → Gives (sides_at seats p) p
 unfolding sides_at
-sides_give seats p v h = (judged_taken true _ p Code.LacksSide p v h).value
+sides_give seats p v h = (judged_taken Code.FileEnds true _ p Code.LacksSide p v h).value
 
 -- A field in the middle of a part, the last of a part, and the last of all.
 inside : (P : Plan) (f : Field) (u : ℕ) (rest : ℕ → Result Plan Refusal) (g h : Field) → Gives f u → rest u ≡ with_plan P (and_then g h)

@@ -6,7 +6,7 @@ use Rattle.cell.specs.Limits.{Limits, first_restart, entry_of_all}
 use Rattle.recording.specs.Recording.{side_count}
 use Rattle.recording.specs.declared.Seat.{Seat}
 use Rattle.codes.specs.declared.Code.TheVariants as Code
-use Rattle.codes.specs.declared.Refusal.{Refusal}
+use Rattle.codes.specs.Codes.{Refusal}
 use Rattle.xdr.specs.Field.{Field, judged, word_at, within, field_at, and_then, run, end_at}
 use Rattle.xdr.specs.Opaque.{opaque_at}
 use Rattle.format.specs.declared.Plan.{Plan}

@@ -16,12 +16,12 @@ use Rattle.format.specs.Format.{names_act, item_at, width_of, seats_at, sides_at
 -- An item that is taken lies in the file.
 pub item_inside : (k : Items) (s : List ℕ) (p u : ℕ) → item_at k s p ≡ Ok u → p + width_of k ≤ length s
 unfolding item_at
-item_inside (Entries states) s p u h = field_inside (within 0 states) Code.Entry s p u h
+item_inside (Entries states) s p u h = field_inside _ (within 0 states) Code.Entry s p u h
 item_inside (Looms operations) s p u h =
     let both = then_taken (field_at (within 0 2) Code.Seat s p) (field_at (within 0 operations) Code.Seat s (p + 4)) u h in
-    let end : p + 4 + 4 ≤ length s = field_inside (within 0 operations) Code.Seat s (p + 4) u both.1 in
+    let end : p + 4 + 4 ≤ length s = field_inside _ (within 0 operations) Code.Seat s (p + 4) u both.1 in
     omega arith
-item_inside (Acts looms) s p u h = field_inside (names_act looms) Code.Act s p u h
+item_inside (Acts looms) s p u h = field_inside _ (names_act looms) Code.Act s p u h
 
 -- The looms of a side among some: the first, if it is of that side, and those among the rest.
 pub side_none : (s : List ℕ) (X n p : ℕ) → n ≤ 0 → side_count X (seats_at s n p) ≡ 0

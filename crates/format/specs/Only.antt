@@ -3,7 +3,7 @@
 use Rattle.std.specs.Prelude.{ℕ, ◌≡◌, List, Result, IfOk}
 use Rattle.std.proofs.Common.{sym, ◌∙◌}
 use Rattle.cell.specs.Limits.{edition}
-use Rattle.codes.specs.declared.Refusal.{Refusal}
+use Rattle.codes.specs.Codes.{Refusal}
 use Rattle.format.specs.declared.Plan.{Plan}
 use Rattle.format.specs.Layout.{Small}
 use Rattle.format.specs.Format.{judgement_of}

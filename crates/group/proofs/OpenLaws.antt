@@ -5,7 +5,7 @@ use Rattle.std.proofs.Common.{arith, add-one, not-suc-le-zero, le_of_suc-le-suc,
 use borrow.Author.Tests.{eq-eqb, ne_eqb}
 use Rattle.codes.specs.declared.Code.{Code}
 use Rattle.codes.specs.declared.Code.TheVariants.{PieceNumber}
-use Rattle.codes.specs.declared.Refusal.{Refusal}
+use Rattle.codes.specs.Codes.{Refusal}
 use Rattle.sides.specs.declared.Pair.{Pair}
 use Rattle.cell.specs.Limits.{edition}
 use Rattle.recording.specs.declared.Seat.{Seat}

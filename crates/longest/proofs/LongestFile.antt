@@ -7,9 +7,9 @@ use Rattle.std.proofs.lemmas.List.{length-replicate, get_or-replicate}
 use Rattle.std.proofs.Math.ListN.{get_or-append}
 use Rattle.cell.specs.Limits.{edition}
 use Rattle.codes.specs.declared.Code.{Code}
-use Rattle.xdr.specs.Field.{word_at, within, field_at, Passed, run}
+use Rattle.xdr.specs.Field.{word_at, within, field_at, field_with, Passed, run}
 use Rattle.xdr.specs.FieldLaws.{word_inside, field_takes, run_takes, end_takes}
-use Rattle.xdr.specs.Opaque.{pad_of, all, opaque_at}
+use Rattle.xdr.specs.Opaque.{pad_of, all, opaque_with}
 use Rattle.format.specs.declared.Plan.{Plan}
 use Rattle.format.specs.declared.Items.TheVariants.{Entries, Acts}
 use Rattle.format.specs.Layout.{plan_of}
@@ -79,7 +79,7 @@ zero_field : (ok : ℕ → Bool) (code : Code) (from size k : ℕ) → ((j : ℕ
     → ok 0 ≡ true → Passed (field_at ok code longest_file (from + k))
 zero_field ok code from size k zeros l fits good = (
   word_at longest_file (from + k),
-  field_takes ok code longest_file (from + k) (le-leb (from + k + 4) (length longest_file) (omega (arith, longest_length)))
+  field_takes _ ok code longest_file (from + k) (le-leb (from + k + 4) (length longest_file) (omega (arith, longest_length)))
       (ap ok (zero_word from size k zeros l fits) ∙ good),
 )
 
@@ -123,7 +123,7 @@ entries_pass : Passed (run_of (Entries (word_at longest_file 0)) longest_file (w
 entries_pass = (4108, rw (states_word, count_word) table_taken)
 
 each_passes : Passes edition longest_file plan
-unfolding longest_file front word_at within field_at item_at run sides_at seats_at label_at opaque_at pad_of all
+unfolding longest_file front word_at within field_with item_at run sides_at seats_at label_at opaque_with pad_of all
 each_passes = record {
   states = (64, refl);
   operations = (16, refl);

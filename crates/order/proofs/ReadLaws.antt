@@ -3,7 +3,7 @@
 use Rattle.std.specs.Prelude.{ℕ, ◌+◌, ◌≤◌, ◌≡◌, List, ◌++◌, length, drop, refl, Result, Ok, Err}
 use Rattle.std.proofs.Common.{arith, ◌∙◌}
 use Rattle.cell.specs.Limits.{edition}
-use Rattle.codes.specs.declared.Refusal.{Refusal}
+use Rattle.codes.specs.Codes.{Refusal}
 use Rattle.format.specs.declared.Plan.{Plan}
 use Rattle.xdr.specs.Field.{Field, Passed}
 use Rattle.format.specs.Layout.{Small, plan_of}

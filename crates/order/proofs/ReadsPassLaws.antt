@@ -52,8 +52,8 @@ seat_fits : (operations : ℕ) (s : List ℕ) (p : ℕ) → Passed (item_at (Loo
 unfolding item_at
 seat_fits operations s p passed =
     let fields = then_both (field_at (within 0 2) Code.Seat s p) (field_at (within 0 operations) Code.Seat s (p + 4)) passed in
-    let side = limits 0 2 Code.Seat s p fields.0 in
-    let operation = limits 0 operations Code.Seat s (p + 4) fields.1 in
+    let side = limits _ 0 2 Code.Seat s p fields.0 in
+    let operation = limits _ 0 operations Code.Seat s (p + 4) fields.1 in
     rw (le-ltb 1 (word_at s p) (omega (arith, side.1)), lt-leb operations (word_at s (p + 4)) operation.1)
 
 no_misfit : (operations : ℕ) (s : List ℕ) (n p : ℕ) → ((j : ℕ) → j < n → Passed (item_at (Looms operations) s (p + j * 8)))
@@ -76,7 +76,7 @@ both_true false b h = cc
 both_sides : (seats : List Seat) (p : ℕ) → Passed (sides_at seats p) → (0 < side_count 0 seats) × (0 < side_count 1 seats)
 unfolding sides_at
 both_sides seats p (v, taken) =
-    let tests = both_true (ltb 0 (side_count 0 seats)) (ltb 0 (side_count 1 seats)) (judged_taken true _ p Code.LacksSide p v taken).good in
+    let tests = both_true (ltb 0 (side_count 0 seats)) (ltb 0 (side_count 1 seats)) (judged_taken Code.FileEnds true _ p Code.LacksSide p v taken).good in
     (ltb-true 0 (side_count 0 seats) tests.0, ltb-true 0 (side_count 1 seats) tests.1)
 
 -- ---- none of 2 to 9 and 40
@@ -93,9 +93,9 @@ module _ (s : List ℕ) (passes : Passes edition s (plan_of s)) where
   form : HasForm table P.states P.operations
   unfolding plan_of
   form =
-      let states = limits _ _ _ s 0 passes.states in
-      let operations = limits _ _ _ s 4 passes.operations in
-      let size = limits _ _ _ s 8 passes.size in
+      let states = limits _ _ _ _ s 0 passes.states in
+      let operations = limits _ _ _ _ s 4 passes.operations in
+      let size = limits _ _ _ _ s 8 passes.size in
       record {
         some_states = states.0;
         few_states = omega (arith, states.1);
@@ -121,10 +121,10 @@ module _ (s : List ℕ) (passes : Passes edition s (plan_of s)) where
       same = looms_read s P.looms (P.start + 8) (word_at s P.start)
 
       start_fits : word_at s P.start < P.states
-      start_fits = (limits _ _ _ s P.start passes.start).1
+      start_fits = (limits _ _ _ _ s P.start passes.start).1
 
       count : (2 ≤ P.looms) × (P.looms < edition.looms + 1)
-      count = limits _ _ _ s (P.start + 4) passes.count
+      count = limits _ _ _ _ s (P.start + 4) passes.count
 
       fitted : P.looms ≤ first_misfit P.operations (looms_of c)
       fitted =

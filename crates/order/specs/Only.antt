@@ -4,7 +4,7 @@ use Rattle.std.specs.Prelude.{ℕ, ◌≡◌, List, Result}
 use Rattle.std.proofs.Common.{sym, ◌∙◌}
 use Rattle.std.specs.Borrow.{Bor}
 use Rattle.cell.specs.Limits.{edition}
-use Rattle.codes.specs.declared.Refusal.{Refusal}
+use Rattle.codes.specs.Codes.{Refusal}
 use Rattle.order.specs.declared.Order.{Order}
 use Rattle.recording.specs.declared.Certificate.{Certificate}
 use Rattle.order.specs.Order.{certificate_in, ReadsTo}

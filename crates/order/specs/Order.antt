@@ -6,8 +6,7 @@ use Rattle.recording.specs.Recording.{empty_seat}
 use Rattle.recording.specs.declared.Seat.{Seat}
 use Rattle.recording.specs.declared.Certificate.{Certificate}
 use Rattle.codes.specs.declared.Code.TheVariants.{NoRoom}
-use Rattle.codes.specs.declared.Refusal.{Refusal}
-use Rattle.codes.specs.Codes.{refused_at}
+use Rattle.codes.specs.Codes.{Refusal, refused_at}
 use Rattle.xdr.specs.Field.{Field, word_at}
 use Rattle.order.specs.declared.Order.{Order}
 use Rattle.order.specs.declared.Piece.{Piece}

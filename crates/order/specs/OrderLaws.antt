@@ -10,8 +10,7 @@ use Rattle.xdr.specs.Field.{word_at}
 use borrow.Author.Tests.{le-leb, lt-leb}
 use Rattle.cell.specs.Limits.{Limits}
 use Rattle.codes.specs.declared.Code.TheVariants.{NoRoom}
-use Rattle.codes.specs.declared.Refusal.{Refusal}
-use Rattle.codes.specs.Codes.{refused_at}
+use Rattle.codes.specs.Codes.{Refusal, refused_at}
 use Rattle.format.specs.Layout.{plan_of}
 use Rattle.format.specs.Format.{seat_at, seats_at, verdict_of}
 use Rattle.order.specs.Order.{table_room, reading_of, words_at, accepted_of, order_of, table_after, schedule_after, ReadsTo}

@@ -26,15 +26,15 @@ worked_length = refl
 
 -- It is taken, and ends at its last byte; a byte less is refused with 1 at the last entry, a byte more with 14.
 pub worked_taken : reading_of edition worked_file 1024 4096 ≡ Ok 152
-unfolding reading_of G.verdict_of G.judged_by G.head_of G.certificate_of G.pieces_of G.schedule_of G.label_at G.item_at G.sides_at G.seats_at G.names_act Y.plan_of F.field_at F.within F.word_at F.run F.end_at O.opaque_at O.pad_of O.all
+unfolding reading_of G.verdict_of G.judged_by G.head_of G.certificate_of G.pieces_of G.schedule_of G.label_at G.item_at G.sides_at G.seats_at G.names_act Y.plan_of F.field_with F.within F.word_at F.run F.end_with O.opaque_with O.pad_of O.all
 worked_taken = refl
 
 pub worked_cut : reading_of edition (take 151 worked_file) 1024 4096 ≡ Err (refused_at FileEnds 148)
-unfolding reading_of G.verdict_of G.judged_by G.head_of G.certificate_of G.pieces_of G.schedule_of G.label_at G.item_at G.sides_at G.seats_at G.names_act Y.plan_of F.field_at F.within F.word_at F.run F.end_at O.opaque_at O.pad_of O.all
+unfolding reading_of G.verdict_of G.judged_by G.head_of G.certificate_of G.pieces_of G.schedule_of G.label_at G.item_at G.sides_at G.seats_at G.names_act Y.plan_of F.field_with F.within F.word_at F.run F.end_with O.opaque_with O.pad_of O.all
 worked_cut = refl
 
 pub worked_extra : reading_of edition (worked_file ++ (0 ∷ [])) 1024 4096 ≡ Err (refused_at ExtraBytes 152)
-unfolding reading_of G.verdict_of G.judged_by G.head_of G.certificate_of G.pieces_of G.schedule_of G.label_at G.item_at G.sides_at G.seats_at G.names_act Y.plan_of F.field_at F.within F.word_at F.run F.end_at O.opaque_at O.pad_of O.all
+unfolding reading_of G.verdict_of G.judged_by G.head_of G.certificate_of G.pieces_of G.schedule_of G.label_at G.item_at G.sides_at G.seats_at G.names_act Y.plan_of F.field_with F.within F.word_at F.run F.end_with O.opaque_with O.pad_of O.all
 worked_extra = refl
 
 -- The rooms come first.

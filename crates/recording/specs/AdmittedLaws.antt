@@ -3,8 +3,7 @@
 use Rattle.std.specs.Prelude.{ℕ, zero, suc, ◌≤◌, ◌<◌, ◌≡◌, refl, Bool, true, false, cond, ◌||◌, Ok, Err, List, [], ◌∷◌, leb, ltb, length}
 use Rattle.std.proofs.Common.{sym, subst, ◌∙◌, le_of_suc-le-suc, not-suc-le-zero, arith, leb-false, ltb-false, length-take}
 use Rattle.std.proofs.Math.Decide.{dec_le}
-use Rattle.codes.specs.declared.Refusal.{Refusal}
-use Rattle.codes.specs.Codes.{Verdict}
+use Rattle.codes.specs.Codes.{Refusal, Verdict}
 use Rattle.cell.specs.Limits.{edition}
 use Rattle.cell.specs.Table.{entry_of, form_of}
 use Rattle.cell.specs.TableLaws.{HasForm, form_says, good_moves}

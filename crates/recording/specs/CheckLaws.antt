@@ -11,8 +11,7 @@ use Rattle.cell.specs.Limits.{edition}
 use Rattle.cell.specs.Table.{form_of}
 use Rattle.codes.specs.declared.Code.TheVariants.{Start, Looms, LacksSide, SharedState, ReturnsToA, ReturnsToB, NoRoom}
 use Rattle.codes.specs.declared.Code.TheVariants as codes
-use Rattle.codes.specs.declared.Refusal.{Refusal}
-use Rattle.codes.specs.Codes.{refused_at}
+use Rattle.codes.specs.Codes.{Refusal, refused_at}
 use Rattle.recording.specs.declared.Certificate.{Certificate}
 use Rattle.recording.specs.declared.Seat.{Seat}
 use Rattle.recording.specs.Check.{looms_of, misfit_of, lowest_misfit, first_misfit, room_for, looms_fault, fault_of, judgement, comes_back, verdict_of, verdict_on, set_by, judged_of, words_over, area_of}

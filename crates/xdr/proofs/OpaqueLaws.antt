@@ -7,12 +7,10 @@ use Rattle.std.proofs.lemmas.Bool.{lt-leb}
 use Rattle.std.proofs.lemmas.List.{length-drop, get_or_default}
 use Rattle.std.proofs.Math.Seq.{length-take-le}
 use Rattle.std.specs.List.{AllPass}
-use Rattle.codes.specs.declared.Code.{Code}
-use Rattle.codes.specs.declared.Code.TheVariants.{FileEnds}
 use Rattle.codes.specs.Codes.{refused_at}
 use Rattle.xdr.specs.Field.{anything}
 use Rattle.xdr.specs.FieldLaws.{Taken, judged_takes, judged_refuses, judged_ends, judged_taken}
-use Rattle.xdr.specs.Opaque.{pad_of, padded, all, part_of, past_at, opaque_at}
+use Rattle.xdr.specs.Opaque.{pad_of, padded, all, part_of, past_with, opaque_with}
 
 -- A longer part has no fewer bytes with its pad bytes.
 pub padded_grows : (n m : ℕ) → n ≤ m → padded n ≤ padded m
@@ -50,48 +48,48 @@ all_is ok s n p b inside h =
     (λ t. h.1 (λ j d l. let l' : j < n = rw size at l in ap ok (byte j d l') ∙ all_each ok s n p t j l'))
 
 -- What an opaque part takes, what it refuses, and what is known of one that is taken.
-module _ (ok : ℕ → Bool) (code : Code) (s : List ℕ) (n p : ℕ) where
-  pub opaque_takes : leb (p + padded n) (length s) ≡ true → all ok s n p ≡ true → opaque_at ok code s n p ≡ Ok (p + padded n)
-  unfolding opaque_at
-  opaque_takes = judged_takes (leb (p + padded n) (length s)) (all ok s n p) (p + padded n) code p
+module _ {C : Type 0} (ends : C) (ok : ℕ → Bool) (code : C) (s : List ℕ) (n p : ℕ) where
+  pub opaque_takes : leb (p + padded n) (length s) ≡ true → all ok s n p ≡ true → opaque_with ends ok code s n p ≡ Ok (p + padded n)
+  unfolding opaque_with
+  opaque_takes = judged_takes ends (leb (p + padded n) (length s)) (all ok s n p) (p + padded n) code p
 
-  pub opaque_refuses : leb (p + padded n) (length s) ≡ true → all ok s n p ≡ false → opaque_at ok code s n p ≡ Err (refused_at code p)
-  unfolding opaque_at
-  opaque_refuses = judged_refuses (leb (p + padded n) (length s)) (all ok s n p) (p + padded n) code p
+  pub opaque_refuses : leb (p + padded n) (length s) ≡ true → all ok s n p ≡ false → opaque_with ends ok code s n p ≡ Err (refused_at code p)
+  unfolding opaque_with
+  opaque_refuses = judged_refuses ends (leb (p + padded n) (length s)) (all ok s n p) (p + padded n) code p
 
-  pub opaque_ends : leb (p + padded n) (length s) ≡ false → opaque_at ok code s n p ≡ Err (refused_at FileEnds p)
-  unfolding opaque_at
-  opaque_ends = judged_ends (leb (p + padded n) (length s)) (all ok s n p) (p + padded n) code p
+  pub opaque_ends : leb (p + padded n) (length s) ≡ false → opaque_with ends ok code s n p ≡ Err (refused_at ends p)
+  unfolding opaque_with
+  opaque_ends = judged_ends ends (leb (p + padded n) (length s)) (all ok s n p) (p + padded n) code p
 
-  pub opaque_taken : (u : ℕ) → opaque_at ok code s n p ≡ Ok u → Taken (leb (p + padded n) (length s)) (all ok s n p) (p + padded n) u
-  unfolding opaque_at
-  opaque_taken u = judged_taken (leb (p + padded n) (length s)) (all ok s n p) (p + padded n) code p u
+  pub opaque_taken : (u : ℕ) → opaque_with ends ok code s n p ≡ Ok u → Taken (leb (p + padded n) (length s)) (all ok s n p) (p + padded n) u
+  unfolding opaque_with
+  opaque_taken u = judged_taken ends (leb (p + padded n) (length s)) (all ok s n p) (p + padded n) code p u
 
 -- The same of a part whose pad bytes have been counted.
-module _ (ok : ℕ → Bool) (code : Code) (s : List ℕ) (n p pads : ℕ) (e : pads ≡ pad_of n) where
+module _ {C : Type 0} (ends : C) (ok : ℕ → Bool) (code : C) (s : List ℕ) (n p pads : ℕ) (e : pads ≡ pad_of n) where
   after : p + n + pads ≡ p + padded n
   after = omega arith
 
-  pub part_takes : leb (p + n + pads) (length s) ≡ true → all ok s n p ≡ true → opaque_at ok code s n p ≡ Ok (p + n + pads)
-  part_takes f t = opaque_takes ok code s n p (rw after at f) t ∙ ap Ok (sym after)
+  pub part_takes : leb (p + n + pads) (length s) ≡ true → all ok s n p ≡ true → opaque_with ends ok code s n p ≡ Ok (p + n + pads)
+  part_takes f t = opaque_takes ends ok code s n p (rw after at f) t ∙ ap Ok (sym after)
 
-  pub part_refuses : leb (p + n + pads) (length s) ≡ true → all ok s n p ≡ false → opaque_at ok code s n p ≡ Err (refused_at code p)
-  part_refuses f t = opaque_refuses ok code s n p (rw after at f) t
+  pub part_refuses : leb (p + n + pads) (length s) ≡ true → all ok s n p ≡ false → opaque_with ends ok code s n p ≡ Err (refused_at code p)
+  part_refuses f t = opaque_refuses ends ok code s n p (rw after at f) t
 
-  pub part_ends : leb (p + n + pads) (length s) ≡ false → opaque_at ok code s n p ≡ Err (refused_at FileEnds p)
-  part_ends f = opaque_ends ok code s n p (rw after at f)
+  pub part_ends : leb (p + n + pads) (length s) ≡ false → opaque_with ends ok code s n p ≡ Err (refused_at ends p)
+  part_ends f = opaque_ends ends ok code s n p (rw after at f)
 
 -- A part whose bytes run past the file's end, before any pad.
-pub bytes_end : (ok : ℕ → Bool) (code : Code) (s : List ℕ) (n p : ℕ) → leb (p + n) (length s) ≡ false → opaque_at ok code s n p ≡ Err (refused_at FileEnds p)
-bytes_end ok code s n p f =
+pub bytes_end : {C : Type 0} (ends : C) (ok : ℕ → Bool) (code : C) (s : List ℕ) (n p : ℕ) → leb (p + n) (length s) ≡ false → opaque_with ends ok code s n p ≡ Err (refused_at ends p)
+bytes_end ends ok code s n p f =
     let h : length s < p + n = leb-false (p + n) (length s) f in
-    opaque_ends ok code s n p (lt-leb (p + padded n) (length s) (omega arith))
+    opaque_ends ends ok code s n p (lt-leb (p + padded n) (length s) (omega arith))
 
 -- What follows a part lies in the file.
-pub past_taken : (s : List ℕ) (n p u : ℕ) → past_at s n p ≡ Ok u → (p + padded n ≤ length s) × (u ≡ p + padded n)
-unfolding past_at
-past_taken s n p u h =
-    let t = judged_taken true (leb (p + padded n) (length s)) (p + padded n) FileEnds p u h in
+pub past_taken : {C : Type 0} (ends : C) (s : List ℕ) (n p u : ℕ) → past_with ends s n p ≡ Ok u → (p + padded n ≤ length s) × (u ≡ p + padded n)
+unfolding past_with
+past_taken ends s n p u h =
+    let t = judged_taken ends true (leb (p + padded n) (length s)) (p + padded n) ends p u h in
     (leb-true (p + padded n) (length s) t.good, t.value)
 
 -- Every byte passes the test that everything passes, so a part with no test of its own is what follows it.
@@ -100,9 +98,9 @@ unfolding all
 all_anything s zero p = refl
 all_anything s (suc n) p = all_anything s n (p + 1)
 
-pub past_is_opaque : (s : List ℕ) (n p : ℕ) → past_at s n p ≡ opaque_at anything FileEnds s n p
-unfolding past_at opaque_at
-past_is_opaque s n p = rw all_anything
+pub past_is_opaque : {C : Type 0} (ends : C) (s : List ℕ) (n p : ℕ) → past_with ends s n p ≡ opaque_with ends anything ends s n p
+unfolding past_with opaque_with
+past_is_opaque ends s n p = rw all_anything
 
 -- A part that lies in the file, and one that doesn't.
 pub part_inside : (s : List ℕ) (p n : ℕ) → p + n ≤ length s → part_of s p n ≡ take n (drop p s)

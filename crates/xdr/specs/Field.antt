@@ -3,12 +3,16 @@
 use Rattle.std.specs.Prelude.{ℕ, zero, suc, ◌+◌, ◌*◌, ◌≡◌, Bool, true, cond, ◌&&◌, List, leb, ltb, length, get_or, Result, Ok, Err}
 use Rattle.codes.specs.declared.Code.{Code}
 use Rattle.codes.specs.declared.Code.TheVariants.{FileEnds}
-use Rattle.codes.specs.declared.Refusal.{Refusal}
+use Rattle.codes.specs.declared.Refused.{Refused}
 use Rattle.codes.specs.Codes.{refused_at}
 
--- What a field gives: its value, or its refusal with the byte where it begins.
+-- What a field gives: its value, or its refusal with the byte where it begins. Codes of any kind C will do; one of them, `ends`, says that
+-- the file ends before a field does. A field of document 01 has its codes.
+abbrev pub FieldWith : Type 0 → Type 0
+FieldWith C = Result ℕ (Refused C)
+
 abbrev pub Field : Type 0
-Field = Result ℕ Refusal
+Field = FieldWith Code
 
 -- "All words are XDR unsigned ints, big-endian."
 abbrev pub joined : ℕ → ℕ → ℕ → ℕ → ℕ
@@ -32,27 +36,36 @@ anything v = true
 
 -- "1, the file ends before a field does", and "each 1 before its value": whether the file reaches to the field's end, whether the field
 -- passes its test, what it gives, the code of its own refusal. "The place is the byte where the refused field begins."
+abbrev pub judged_with : {C : Type 0} → C → Bool → Bool → ℕ → C → ℕ → FieldWith C
+judged_with ends reaches passes v code p = cond reaches (cond passes (Ok v) (Err (refused_at code p))) (Err (refused_at ends p))
+
 abbrev pub judged : Bool → Bool → ℕ → Code → ℕ → Field
-judged reaches passes v code p = cond reaches (cond passes (Ok v) (Err (refused_at code p))) (Err (refused_at FileEnds p))
+judged = judged_with FileEnds
 
 -- The word at position p as a field whose value has to pass a test.
-unfoldable pub field_at : (ℕ → Bool) → Code → List ℕ → ℕ → Field
-field_at ok code s p = judged (word_fits s p) (ok (word_at s p)) (word_at s p) code p
+unfoldable pub field_with : {C : Type 0} → C → (ℕ → Bool) → C → List ℕ → ℕ → FieldWith C
+field_with ends ok code s p = judged_with ends (word_fits s p) (ok (word_at s p)) (word_at s p) code p
+
+abbrev pub field_at : (ℕ → Bool) → Code → List ℕ → ℕ → Field
+field_at = field_with FileEnds
 
 -- A field is taken, whatever it gives.
-abbrev pub Passed : Field → Type 0
+abbrev pub Passed : {C : Type 0} → FieldWith C → Type 0
 Passed f = (v : ℕ) × (f ≡ Ok v)
 
 -- "The fields in file order": the first refusal; with none, what the last field gives.
-abbrev pub and_then : Field → Field → Field
+abbrev pub and_then : {C : Type 0} → FieldWith C → FieldWith C → FieldWith C
 and_then (Ok v) g = g
 and_then (Err e) g = Err e
 
 -- A counted run: "items are judged one by one". item q is the item at q, each item is so many bytes wide; what follows the run is given.
-unfoldable pub run : (ℕ → Field) → ℕ → ℕ → ℕ → Field
+unfoldable pub run : {C : Type 0} → (ℕ → FieldWith C) → ℕ → ℕ → ℕ → FieldWith C
 run item width zero p = Ok p
 run item width (suc k) p = and_then (item p) (run item width k (p + width))
 
 -- The file ends at p, or the first extra byte is refused.
-unfoldable pub end_at : Code → List ℕ → ℕ → Field
-end_at code s p = cond (leb (length s) p) (Ok p) (Err (refused_at code p))
+unfoldable pub end_with : {C : Type 0} → C → List ℕ → ℕ → FieldWith C
+end_with code s p = cond (leb (length s) p) (Ok p) (Err (refused_at code p))
+
+abbrev pub end_at : Code → List ℕ → ℕ → Field
+end_at = end_with

@@ -4,11 +4,9 @@ use Rattle.std.specs.Prelude.{ℕ, zero, suc, ◌+◌, ◌-◌, ◌*◌, ◌^◌
 use Rattle.std.proofs.Common.{zero-mul, suc-mul, sub-one, arith, sym, ap, ◌∙◌, leb-true, ltb-true, le-leb, lt-ltb, le-ltb}
 use Rattle.std.proofs.Math.Bool.{and-eq-true_iff}
 use Rattle.std.proofs.lemmas.Bool.{lt-leb}
-use Rattle.codes.specs.declared.Code.{Code}
-use Rattle.codes.specs.declared.Code.TheVariants.{FileEnds}
-use Rattle.codes.specs.declared.Refusal.{Refusal}
+use Rattle.codes.specs.declared.Refused.{Refused}
 use Rattle.codes.specs.Codes.{refused_at}
-use Rattle.xdr.specs.Field.{Field, joined, word_fits, word_at, within, judged, field_at, Passed, and_then, run, end_at}
+use Rattle.xdr.specs.Field.{FieldWith, joined, word_fits, word_at, within, judged_with, field_with, Passed, and_then, run, end_with}
 
 -- The word at a position within the file, and past its end.
 pub word_inside : (s : List ℕ) (p : ℕ) → p + 4 ≤ length s
@@ -48,14 +46,14 @@ within_taken low end v h =
     let parts = (and-eq-true_iff (leb low v) (ltb v end)).0 h in (leb-true low v parts.0, ltb-true v end parts.1)
 
 -- What a judged field takes, and what it refuses: its end past the file's first, then its test.
-module _ (reaches passes : Bool) (v : ℕ) (code : Code) (p : ℕ) where
-  pub judged_takes : reaches ≡ true → passes ≡ true → judged reaches passes v code p ≡ Ok v
+module _ {C : Type 0} (ends : C) (reaches passes : Bool) (v : ℕ) (code : C) (p : ℕ) where
+  pub judged_takes : reaches ≡ true → passes ≡ true → judged_with ends reaches passes v code p ≡ Ok v
   judged_takes f t = simp (f, t)
 
-  pub judged_refuses : reaches ≡ true → passes ≡ false → judged reaches passes v code p ≡ Err (refused_at code p)
+  pub judged_refuses : reaches ≡ true → passes ≡ false → judged_with ends reaches passes v code p ≡ Err (refused_at code p)
   judged_refuses f t = simp (f, t)
 
-  pub judged_ends : reaches ≡ false → judged reaches passes v code p ≡ Err (refused_at FileEnds p)
+  pub judged_ends : reaches ≡ false → judged_with ends reaches passes v code p ≡ Err (refused_at ends p)
   judged_ends f = simp f
 
 -- What is known of a judged field that is taken.
@@ -64,75 +62,75 @@ pub record Taken (reaches passes : Bool) (v u : ℕ) : Type 0 where
   pub good : passes ≡ true
   pub value : u ≡ v
 
-pub judged_taken : (reaches passes : Bool) (v : ℕ) (code : Code) (p u : ℕ) → judged reaches passes v code p ≡ Ok u → Taken reaches passes v u
-judged_taken true true v code p u h = record { inside = refl; good = refl; value = cc }
-judged_taken true false v code p u h = cc
-judged_taken false t v code p u h = cc
+pub judged_taken : {C : Type 0} (ends : C) (reaches passes : Bool) (v : ℕ) (code : C) (p u : ℕ) → judged_with ends reaches passes v code p ≡ Ok u → Taken reaches passes v u
+judged_taken ends true true v code p u h = record { inside = refl; good = refl; value = cc }
+judged_taken ends true false v code p u h = cc
+judged_taken ends false t v code p u h = cc
 
 -- The same of a field: what it takes, what it refuses, and what is known of one that is taken.
-module _ (ok : ℕ → Bool) (code : Code) (s : List ℕ) (p : ℕ) where
-  pub field_takes : word_fits s p ≡ true → ok (word_at s p) ≡ true → field_at ok code s p ≡ Ok (word_at s p)
-  unfolding field_at
-  field_takes = judged_takes (word_fits s p) (ok (word_at s p)) (word_at s p) code p
+module _ {C : Type 0} (ends : C) (ok : ℕ → Bool) (code : C) (s : List ℕ) (p : ℕ) where
+  pub field_takes : word_fits s p ≡ true → ok (word_at s p) ≡ true → field_with ends ok code s p ≡ Ok (word_at s p)
+  unfolding field_with
+  field_takes = judged_takes ends (word_fits s p) (ok (word_at s p)) (word_at s p) code p
 
-  pub field_refuses : word_fits s p ≡ true → ok (word_at s p) ≡ false → field_at ok code s p ≡ Err (refused_at code p)
-  unfolding field_at
-  field_refuses = judged_refuses (word_fits s p) (ok (word_at s p)) (word_at s p) code p
+  pub field_refuses : word_fits s p ≡ true → ok (word_at s p) ≡ false → field_with ends ok code s p ≡ Err (refused_at code p)
+  unfolding field_with
+  field_refuses = judged_refuses ends (word_fits s p) (ok (word_at s p)) (word_at s p) code p
 
-  pub field_ends : word_fits s p ≡ false → field_at ok code s p ≡ Err (refused_at FileEnds p)
-  unfolding field_at
-  field_ends = judged_ends (word_fits s p) (ok (word_at s p)) (word_at s p) code p
+  pub field_ends : word_fits s p ≡ false → field_with ends ok code s p ≡ Err (refused_at ends p)
+  unfolding field_with
+  field_ends = judged_ends ends (word_fits s p) (ok (word_at s p)) (word_at s p) code p
 
-  pub field_taken : (u : ℕ) → field_at ok code s p ≡ Ok u → Taken (word_fits s p) (ok (word_at s p)) (word_at s p) u
-  unfolding field_at
-  field_taken u = judged_taken (word_fits s p) (ok (word_at s p)) (word_at s p) code p u
+  pub field_taken : (u : ℕ) → field_with ends ok code s p ≡ Ok u → Taken (word_fits s p) (ok (word_at s p)) (word_at s p) u
+  unfolding field_with
+  field_taken u = judged_taken ends (word_fits s p) (ok (word_at s p)) (word_at s p) code p u
 
   -- a taken field's four bytes lie in the file
-  pub field_inside : (u : ℕ) → field_at ok code s p ≡ Ok u → p + 4 ≤ length s
+  pub field_inside : (u : ℕ) → field_with ends ok code s p ≡ Ok u → p + 4 ≤ length s
   field_inside u h = leb-true (p + 4) (length s) (field_taken u h).inside
 
 -- The same of a field with limits whose value v has been read.
-module _ (low end : ℕ) (code : Code) (s : List ℕ) (p v : ℕ) (f : word_fits s p ≡ true) (e : v ≡ word_at s p) where
-  pub limits_take : low ≤ v → v < end → Ok v ≡ field_at (within low end) code s p
+module _ {C : Type 0} (ends : C) (low end : ℕ) (code : C) (s : List ℕ) (p v : ℕ) (f : word_fits s p ≡ true) (e : v ≡ word_at s p) where
+  pub limits_take : low ≤ v → v < end → Ok v ≡ field_with ends (within low end) code s p
   limits_take l h =
-      ap Ok e ∙ sym (field_takes (within low end) code s p f (ap (within low end) (sym e) ∙ within_takes low end v l h))
+      ap Ok e ∙ sym (field_takes ends (within low end) code s p f (ap (within low end) (sym e) ∙ within_takes low end v l h))
 
-  pub limits_refuse : within low end v ≡ false → Err (refused_at code p) ≡ field_at (within low end) code s p
-  limits_refuse h = sym (field_refuses (within low end) code s p f (ap (within low end) (sym e) ∙ h))
+  pub limits_refuse : within low end v ≡ false → Err (refused_at code p) ≡ field_with ends (within low end) code s p
+  limits_refuse h = sym (field_refuses ends (within low end) code s p f (ap (within low end) (sym e) ∙ h))
 
 -- Of two fields in a row both are taken, or the first refusal is given.
-pub then_takes : (f g : Field) (v : ℕ) → f ≡ Ok v → and_then f g ≡ g
+pub then_takes : {C : Type 0} (f g : FieldWith C) (v : ℕ) → f ≡ Ok v → and_then f g ≡ g
 then_takes f g v h = simp h
 
-pub then_refuses : (f g : Field) (e : Refusal) → f ≡ Err e → and_then f g ≡ Err e
+pub then_refuses : {C : Type 0} (f g : FieldWith C) (e : Refused C) → f ≡ Err e → and_then f g ≡ Err e
 then_refuses f g e h = simp h
 
-pub then_taken : (f g : Field) (u : ℕ) → and_then f g ≡ Ok u → Passed f × (g ≡ Ok u)
+pub then_taken : {C : Type 0} (f g : FieldWith C) (u : ℕ) → and_then f g ≡ Ok u → Passed f × (g ≡ Ok u)
 then_taken (Ok v) g u h = ((v, refl), h)
 then_taken (Err e) g u h = cc
 
-pub then_both : (f g : Field) → Passed (and_then f g) → Passed f × Passed g
+pub then_both : {C : Type 0} (f g : FieldWith C) → Passed (and_then f g) → Passed f × Passed g
 then_both f g (u, h) = ((then_taken f g u h).0, (u, (then_taken f g u h).1))
 
-pub then_passes : (f g : Field) → Passed f → Passed g → Passed (and_then f g)
+pub then_passes : {C : Type 0} (f g : FieldWith C) → Passed f → Passed g → Passed (and_then f g)
 then_passes f g (v, e) (u, h) = (u, then_takes f g v e ∙ h)
 
 -- An empty run is taken; one that isn't empty begins with its first item.
-pub run_none : (item : ℕ → Field) (width n p : ℕ) → n ≤ 0 → run item width n p ≡ Ok p
+pub run_none : {C : Type 0} (item : ℕ → FieldWith C) (width n p : ℕ) → n ≤ 0 → run item width n p ≡ Ok p
 unfolding run
 run_none item width zero p h = refl
 run_none item width (suc k) p h = absurd (omega arith)
 
-pub run_more : (item : ℕ → Field) (width n p : ℕ) → 0 < n → run item width n p ≡ and_then (item p) (run item width (n - 1) (p + width))
+pub run_more : {C : Type 0} (item : ℕ → FieldWith C) (width n p : ℕ) → 0 < n → run item width n p ≡ and_then (item p) (run item width (n - 1) (p + width))
 unfolding run
 run_more item width zero p h = absurd (omega arith)
 run_more item width (suc k) p h = rw sub-one
 
 -- A run goes on after an item that is taken, and stops at one that is refused.
-pub run_goes_on : (item : ℕ → Field) (width n p v : ℕ) → 0 < n → item p ≡ Ok v → run item width (n - 1) (p + width) ≡ run item width n p
+pub run_goes_on : {C : Type 0} (item : ℕ → FieldWith C) (width n p v : ℕ) → 0 < n → item p ≡ Ok v → run item width (n - 1) (p + width) ≡ run item width n p
 run_goes_on item width n p v some h = sym (run_more item width n p some ∙ then_takes _ _ v h)
 
-pub run_stops : (item : ℕ → Field) (width n p : ℕ) (e : Refusal) → 0 < n → item p ≡ Err e → Err e ≡ run item width n p
+pub run_stops : {C : Type 0} (item : ℕ → FieldWith C) (width n p : ℕ) (e : Refused C) → 0 < n → item p ≡ Err e → Err e ≡ run item width n p
 run_stops item width n p e some h = sym (run_more item width n p some ∙ then_refuses _ _ e h)
 
 -- item j of the rest is item j + 1 of the run
@@ -143,7 +141,7 @@ first_place : (p width : ℕ) → p + zero * width ≡ p
 first_place p width = omega (arith, zero-mul width)
 
 -- What a run takes: each of its items.
-pub run_takes : (item : ℕ → Field) (width n p : ℕ) → ((j : ℕ) → j < n → Passed (item (p + j * width))) → run item width n p ≡ Ok (p + n * width)
+pub run_takes : {C : Type 0} (item : ℕ → FieldWith C) (width n p : ℕ) → ((j : ℕ) → j < n → Passed (item (p + j * width))) → run item width n p ≡ Ok (p + n * width)
 unfolding run
 run_takes item width zero p h = ap Ok (sym (first_place p width))
 run_takes item width (suc k) p h =
@@ -152,12 +150,12 @@ run_takes item width (suc k) p h =
     then_takes (item p) _ first.0 (rw first_place at first.1) ∙ run_takes item width k (p + width) rest ∙ ap Ok (next_place p k width)
 
 -- What is known of a run that is taken: each item is, and what follows the run stands after the last.
-both_places : (item : ℕ → Field) (width k p : ℕ) → Passed (item p) → ((j : ℕ) → j < k → Passed (item (p + width + j * width)))
+both_places : {C : Type 0} (item : ℕ → FieldWith C) (width k p : ℕ) → Passed (item p) → ((j : ℕ) → j < k → Passed (item (p + width + j * width)))
     → (j : ℕ) → j < suc k → Passed (item (p + j * width))
 both_places item width k p first rest zero l = rw (first_place p width) first
 both_places item width k p first rest (suc j) l = rw (← next_place p j width) (rest j (omega arith))
 
-pub run_taken : (item : ℕ → Field) (width n p u : ℕ) → run item width n p ≡ Ok u
+pub run_taken : {C : Type 0} (item : ℕ → FieldWith C) (width n p u : ℕ) → run item width n p ≡ Ok u
     → ((j : ℕ) → j < n → Passed (item (p + j * width))) × (u ≡ p + n * width)
 unfolding run
 run_taken item width zero p u h = ((λ j l. absurd (omega arith)), (let e : p ≡ u = cc in sym e ∙ sym (first_place p width)))
@@ -167,10 +165,10 @@ run_taken item width (suc k) p u h =
     (both_places item width k p parts.0 rest.0, rest.1 ∙ next_place p k width)
 
 -- The file's end.
-pub end_takes : (code : Code) (s : List ℕ) (p : ℕ) → length s ≤ p → end_at code s p ≡ Ok p
-unfolding end_at
+pub end_takes : {C : Type 0} (code : C) (s : List ℕ) (p : ℕ) → length s ≤ p → end_with code s p ≡ Ok p
+unfolding end_with
 end_takes code s p h = simp (le-leb (length s) p h)
 
-pub end_taken : (code : Code) (s : List ℕ) (p u : ℕ) → end_at code s p ≡ Ok u → length s ≤ p
-unfolding end_at
-end_taken code s p u h = leb-true (length s) p (judged_taken true (leb (length s) p) p code p u h).good
+pub end_taken : {C : Type 0} (code : C) (s : List ℕ) (p u : ℕ) → end_with code s p ≡ Ok u → length s ≤ p
+unfolding end_with
+end_taken code s p u h = leb-true (length s) p (judged_taken code true (leb (length s) p) p code p u h).good

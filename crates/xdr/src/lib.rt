@@ -2,10 +2,12 @@
 #![tactic(auto)]
 
 ghost use Rattle.std.specs.Prelude.{ℕ, ◌≡◌, ◌+◌, ◌<◌, ◌^◌, Bool, length, leb};
-ghost use Rattle.xdr.specs.Field.{word_at, within, anything, field_at, end_at};
-ghost use Rattle.xdr.specs.Opaque.{pad_of, part_of, past_at, opaque_at};
+ghost use Rattle.codes.specs.declared.Code.TheVariants.{FileEnds};
+ghost use Rattle.codes.specs.Codes.{refused_at};
+ghost use Rattle.xdr.specs.Field.{word_at, within, anything, field_with, end_with};
+ghost use Rattle.xdr.specs.Opaque.{pad_of, part_of, past_with, opaque_with};
 
-use codes::{Code, Refusal};
+use codes::{Code, Refused};
 use std::ops::{Range, RangeFull};
 
 // What a field's value, or each byte of an opaque part, has to keep.
@@ -34,6 +36,39 @@ impl Rule for RangeFull {
     }
 }
 
+// What can stand as the code of a refusal: document 01's codes, or any number of a byte. It has to say that the file ends before a field
+// does.
+pub trait Reason: Copy {
+    ghost file_ends: { Self };
+
+    fn file_ends() -> Self
+        ensures { result ≡ file_ends };
+}
+
+impl Reason for Code {
+    ghost file_ends = { FileEnds };
+
+    fn file_ends() -> Code {
+        Code::FileEnds
+    }
+}
+
+// By the number of that code.
+impl Reason for u8 {
+    ghost file_ends = { 1 };
+
+    fn file_ends() -> u8 {
+        1
+    }
+}
+
+// The refusal with a code, at a place.
+fn refused<C: Reason>(code: C, place: usize) -> Refused<C>
+    ensures { result ≡ refused_at code place }
+{
+    Refused { code, place }
+}
+
 // Whether `count` bytes from `at` on lie within `length` bytes.
 pub fn reaches(length: usize, at: usize, count: usize) -> bool
     ensures { result ≡ leb (at + count) length }
@@ -54,17 +89,22 @@ pub fn word_at(file: &[u8], at: usize) -> usize
 }
 
 // The field at a position: refused with code 1 where the file ends before it does, with `code` where its value breaks the rule.
-pub fn field_at<R: Rule>(file: &[u8], at: usize, rule: R, code: Code) -> Result<usize, Refusal>
-    ensures { result ≡ field_at (R.allows rule) code file.now at }
+pub fn field_at<R: Rule, C: Reason>(
+    file: &[u8],
+    at: usize,
+    rule: R,
+    code: C,
+) -> Result<usize, Refused<C>>
+    ensures { result ≡ field_with C.file_ends (R.allows rule) code file.now at }
 {
     if !reaches(file.len(), at, 4) {
-        return Err(Code::FileEnds.at(at));
+        return Err(refused(C::file_ends(), at));
     }
     let value = word_at(file, at);
     if rule.allows(value) {
         Ok(value)
     } else {
-        Err(code.at(at))
+        Err(refused(code, at))
     }
 }
 
@@ -76,34 +116,34 @@ pub fn pad(count: usize) -> usize
 }
 
 // What follows `count` bytes from `at` on and their pad bytes. Refused with code 1 where the file ends before they do.
-pub fn past_at(file: &[u8], at: usize, count: usize) -> Result<usize, Refusal>
-    ensures { result ≡ past_at file.now count at }
+pub fn past_at<C: Reason>(file: &[u8], at: usize, count: usize) -> Result<usize, Refused<C>>
+    ensures { result ≡ past_with C.file_ends file.now count at }
 {
     let pads = pad(count);
     if reaches(file.len(), at, count) && reaches(file.len(), at + count, pads) {
         Ok(at + count + pads)
     } else {
-        Err(Code::FileEnds.at(at))
+        Err(refused(C::file_ends(), at))
     }
 }
 
 // The bytes of an opaque part with its pad bytes, and what follows them. Refused with code 1 where the file ends before they do, with
 // `code` where a byte breaks the rule; pad bytes are stepped over.
-pub fn opaque_at<R: Rule>(
+pub fn opaque_at<R: Rule, C: Reason>(
     file: &[u8],
     at: usize,
     count: usize,
     rule: R,
-    code: Code,
-) -> Result<usize, Refusal>
-    ensures { result ≡ opaque_at (R.allows rule) code file.now count at }
+    code: C,
+) -> Result<usize, Refused<C>>
+    ensures { result ≡ opaque_with C.file_ends (R.allows rule) code file.now count at }
 {
     let next = past_at(file, at, count)?;
     let part = &file[at..at + count];
     if part.iter().all(|&byte| rule.allows(usize::from(byte))) {
         Ok(next)
     } else {
-        Err(code.at(at))
+        Err(refused(code, at))
     }
 }
 
@@ -119,12 +159,12 @@ pub fn part_at(file: &[u8], at: usize, count: usize) -> &[u8]
 }
 
 // The file's end: refused with `code` at the first extra byte.
-pub fn end_at(file: &[u8], at: usize, code: Code) -> Result<usize, Refusal>
-    ensures { result ≡ end_at code file.now at }
+pub fn end_at<C: Reason>(file: &[u8], at: usize, code: C) -> Result<usize, Refused<C>>
+    ensures { result ≡ end_with code file.now at }
 {
     if file.len() <= at {
         Ok(at)
     } else {
-        Err(code.at(at))
+        Err(refused(code, at))
     }
 }

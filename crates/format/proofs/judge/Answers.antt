@@ -13,8 +13,8 @@ use Rattle.format.proofs.judge.Goals as goal
 few_entries : (s : List ℕ) (p q : ℕ) (code code' : Code) (states operations : ℕ) → field_at (within 1 65) code s p ≡ Ok states
     → field_at (within 1 17) code' s q ≡ Ok operations → states * operations ≤ 64 * 16
 few_entries s p q code code' states operations h k =
-    let t = field_taken _ _ s p states h in
-    let u = field_taken _ _ s q operations k in
+    let t = field_taken _ _ _ s p states h in
+    let u = field_taken _ _ _ s q operations k in
     let below = (within_taken _ _ _ t.good).1 in
     let below' = (within_taken _ _ _ u.good).1 in
     let l : states ≤ 64 = omega (arith, t.value) in
@@ -28,22 +28,22 @@ pub overflow_add-size : goal.overflow_add-size
 overflow_add-size c = omega (arith, few_entries _ _ _ _ _ _ _ (sym c.in_ok-states.ensures) (sym c.in_ok-operations.ensures))
 
 pub overflow_add-count : goal.overflow_add-count
-overflow_add-count c = omega (arith, field_inside _ _ _ _ _ (sym c.in_ok-field_at.ensures))
+overflow_add-count c = omega (arith, field_inside _ _ _ _ _ _ (sym c.in_ok-field_at.ensures))
 
 pub overflow_add-seats : goal.overflow_add-seats
-overflow_add-seats c = omega (arith, field_inside _ _ _ _ _ (sym c.in_ok-looms.ensures))
+overflow_add-seats c = omega (arith, field_inside _ _ _ _ _ _ (sym c.in_ok-looms.ensures))
 
 pub sides_at-requires : goal.sides_at-requires
 sides_at-requires c = omega (arith, (run_taken _ _ _ _ _ (sym c.in_ok-numbers.ensures)).1)
 
 pub overflow_add-numbers : goal.overflow_add-numbers
-overflow_add-numbers c = omega (arith, field_inside _ _ _ _ _ (sym c.in_ok-number_at.ensures))
+overflow_add-numbers c = omega (arith, field_inside _ _ _ _ _ _ (sym c.in_ok-number_at.ensures))
 
 pub overflow_add-label : goal.overflow_add-label
-overflow_add-label c = omega (arith, field_inside _ _ _ _ _ (sym c.in_ok-number_at-2.ensures))
+overflow_add-label c = omega (arith, field_inside _ _ _ _ _ _ (sym c.in_ok-number_at-2.ensures))
 
 pub overflow_add-schedule : goal.overflow_add-schedule
-overflow_add-schedule c = omega (arith, field_inside _ _ _ _ _ (sym c.in_ok-acts.ensures))
+overflow_add-schedule c = omega (arith, field_inside _ _ _ _ _ _ (sym c.in_ok-acts.ensures))
 
 pub returns-in_err-states-clause-judged : goal.returns-in_err-states-clause-judged
 returns-in_err-states-clause-judged c = rw (← parsed_is edition c.args.file.now) (search rules)

@@ -9,8 +9,8 @@ unfolding label_at
 returns-in_err-length c = search rules
 
 pub overflow_add-at : goal.overflow_add-at
-overflow_add-at c = omega (arith, field_inside _ _ _ _ _ (sym c.in_ok-length.ensures))
+overflow_add-at c = omega (arith, field_inside _ _ _ _ _ _ (sym c.in_ok-length.ensures))
 
 pub returns : goal.returns
 unfolding label_at
-returns c = let length = (field_taken _ _ _ _ _ (sym c.in_ok-length.ensures)).value in search rules
+returns c = let length = (field_taken _ _ _ _ _ _ (sym c.in_ok-length.ensures)).value in search rules

@@ -12,4 +12,4 @@ unfolding item_at
 returns c = search rules
 
 pub overflow_add-at : goal.overflow_add-at
-overflow_add-at c = omega (arith, field_inside _ _ _ _ _ (sym c.in_ok-field_at.ensures))
+overflow_add-at c = omega (arith, field_inside _ _ _ _ _ _ (sym c.in_ok-field_at.ensures))

@@ -3,4 +3,4 @@ use Rattle.xdr.proofs.OpaqueLaws.{past_is_opaque}
 use Rattle.reader.proofs.Reader.end.Goals as goal
 
 pub returns : goal.returns
-returns c = c.past_at.ensures ∙ past_is_opaque _ _ _
+returns c = c.past_at.ensures ∙ past_is_opaque _ _ _ _
