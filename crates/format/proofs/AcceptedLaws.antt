@@ -1,7 +1,7 @@
 -- A file is taken exactly where each of its fields is; and what is known of a file that is taken.
 -- Assumes nothing.
 use Rattle.std.specs.Prelude.{ℕ, ◌+◌, ◌*◌, ◌^◌, ◌≤◌, ◌<◌, ◌≡◌, refl, Bool, true, false, ◌||◌, List, ◌⊎◌, ltb, leb, eqb, length, get_or, Ok, Err}
-use Rattle.std.proofs.Common.{mul-le-mul, arith, sym, subst, inl, inr, ⊎_elim, ltb-true, eqb-true}
+use Rattle.std.proofs.Common.{mul-le-mul, arith, sym, ap, ◌∙◌, subst, inl, inr, ⊎_elim, ltb-true, eqb-true}
 use Rattle.cell.specs.Limits.{Limits, edition, first_restart, entry_of_all}
 use Rattle.codes.specs.declared.Code.{Code}
 use Rattle.xdr.specs.Field.{Field, word_at, within, field_at, field_with, Passed, end_at, end_with}
@@ -10,7 +10,7 @@ use Rattle.xdr.specs.Opaque.{pad_of}
 use Rattle.format.specs.declared.Plan.{Plan}
 use Rattle.format.specs.declared.Items.TheVariants.{Entries, Looms, Acts}
 use Rattle.format.specs.Layout.{plan_of, Small}
-use Rattle.format.specs.Format.{exactly, names_act, item_at, run_of, seats_at, sides_at, head_of, certificate_of, number_at, label_at, pieces_of, schedule_of, judged_by, verdict_of, with_plan, judgement_of}
+use Rattle.format.specs.Format.{exactly, names_act, item_at, run_of, seats_at, sides_at, head_of, certificate_of, number_at, label_at, pieces_of, schedule_of, judged_by, verdict_of, with_plan, parsed_of, judgement_of}
 
 -- Each field of a file passes, in file order.
 pub record Passes (L : Limits) (s : List ℕ) (P : Plan) : Type 0 where
@@ -164,9 +164,21 @@ plan_small s bytes =
     record { start = omega arith; looms = looms; numbers = omega arith; rest = omega arith; schedule = omega (arith, word P.rest); acts = word P.schedule }
 
 -- And so are those of a plan that is given.
-pub judged_small : (s : List ℕ) (P : Plan) → Ok P ≡ judgement_of edition s → Small P
+pub judged_small : (s : List ℕ) (P : Plan) → Ok P ≡ parsed_of edition s → Small P
 judged_small s P given = by (verdict_of edition s) refl given
   where
     by : (f : Field) → verdict_of edition s ≡ f → Ok P ≡ with_plan (plan_of s) f → Small P
     by (Ok v) e h = let same : P ≡ plan_of s = cc in subst Small (sym same) (verdict_small s (v, e))
+    by (Err r) e h = cc
+
+-- The judgement of a file that is taken, from its plan.
+pub judgement_taken : (L : Limits) (s : List ℕ) (P : Plan) → Ok P ≡ parsed_of L s → record { verdict = Ok (P.schedule + 4 + 4 * P.acts); plan = P } ≡ judgement_of L s
+judgement_taken L s P given = by (verdict_of L s) refl given
+  where
+    by : (f : Field) → verdict_of L s ≡ f → Ok P ≡ with_plan (plan_of s) f → record { verdict = Ok (P.schedule + 4 + 4 * P.acts); plan = P } ≡ judgement_of L s
+    by (Ok v) e h =
+        let same : P ≡ plan_of s = cc in
+        let verdict : Ok (P.schedule + 4 + 4 * P.acts) ≡ verdict_of L s =
+        ap (λ (Q : Plan). Ok (Q.schedule + 4 + 4 * Q.acts)) same ∙ ap Ok (sym (verdict_end L s v e)) ∙ sym e in
+        λ i. record { verdict = verdict i; plan = same i }
     by (Err r) e h = cc

@@ -14,14 +14,14 @@ use Rattle.format.specs.declared.Plan.{Plan}
 use Rattle.format.specs.declared.Items.{Items}
 use Rattle.format.specs.declared.Items.TheVariants.{Entries, Looms, Acts}
 use Rattle.format.specs.Layout.{past_part, plan_of}
-use Rattle.format.specs.Format.{width_of, run_of, seats_at, sides_at, head_of, certificate_of, number_at, printing, label_at, pieces_of, schedule_of, judged_by, verdict_of, with_plan, judgement_of}
+use Rattle.format.specs.Format.{width_of, run_of, seats_at, sides_at, head_of, certificate_of, number_at, printing, label_at, pieces_of, schedule_of, judged_by, verdict_of, with_plan, parsed_of}
 
 -- What comes of a field's value, or its refusal.
 abbrev pub bind : Field → (ℕ → Result Plan Refusal) → Result Plan Refusal
 bind (Ok v) rest = rest v
 bind (Err e) rest = Err e
 
--- The fields one after the other, as `judge` reads them.
+-- The fields one after the other, as the function `parsed` reads them.
 abbrev pub parsed : Limits → List ℕ → Result Plan Refusal
 parsed L s =
     bind (field_at (within 1 (L.states + 1)) Code.States s 0) (λ states.
@@ -89,7 +89,7 @@ last_of_all : (P : Plan) (f : Field) → bind f (λ v. Ok P) ≡ with_plan P f
 last_of_all P (Ok v) = refl
 last_of_all P (Err e) = refl
 
-pub parsed_is : (L : Limits) (s : List ℕ) → parsed L s ≡ judgement_of L s
+pub parsed_is : (L : Limits) (s : List ℕ) → parsed L s ≡ parsed_of L s
 unfolding plan_of verdict_of judged_by head_of certificate_of pieces_of schedule_of
 parsed_is L s = head
   where
@@ -116,7 +116,7 @@ parsed_is L s = head
         (at_end P _ (P.schedule + 4 + 4 * P.acts) _ _ (λ v h. run_gives (Acts P.looms) s P.acts (P.schedule + 4) v h ∙ omega arith)
         (last_of_all P _))
 
-    head : parsed L s ≡ judgement_of L s
+    head : parsed L s ≡ parsed_of L s
     head =
         inside P _ P.states _ _ _ (field_gives _ _ s 0)
         (inside P _ P.operations _ _ _ (field_gives _ _ s 4)

@@ -10,6 +10,7 @@ use Rattle.codes.specs.Codes.{Refusal}
 use Rattle.xdr.specs.Field.{Field, judged, word_at, within, field_at, and_then, run, end_at}
 use Rattle.xdr.specs.Opaque.{opaque_at}
 use Rattle.format.specs.declared.Plan.{Plan}
+use Rattle.format.specs.declared.Judgement.{Judgement}
 use Rattle.format.specs.Layout.{plan_of}
 use Rattle.format.specs.declared.Items.{Items}
 use Rattle.format.specs.declared.Items.TheVariants.{Entries, Looms, Acts}
@@ -104,10 +105,14 @@ judged_by L s P = and_then (head_of L s) (and_then (certificate_of L s P) (and_t
 unfoldable pub verdict_of : Limits → List ℕ → Field
 verdict_of L s = judged_by L s (plan_of s)
 
--- With the verdict the plan that it went by: a file that is taken gives its plan, so that nobody works it out again.
+-- What judging a file comes to: its verdict and its plan.
+abbrev pub judgement_of : Limits → List ℕ → Judgement
+judgement_of L s = record { verdict = verdict_of L s; plan = plan_of s }
+
+-- The plan of a file that is taken, or the file's refusal.
 abbrev pub with_plan : Plan → Field → Result Plan Refusal
 with_plan P (Ok end) = Ok P
 with_plan P (Err e) = Err e
 
-abbrev pub judgement_of : Limits → List ℕ → Result Plan Refusal
-judgement_of L s = with_plan (plan_of s) (verdict_of L s)
+abbrev pub parsed_of : Limits → List ℕ → Result Plan Refusal
+parsed_of L s = with_plan (plan_of s) (verdict_of L s)

@@ -5,8 +5,8 @@ ghost use Rattle.std.specs.Prelude.{◌≡◌, ◌+◌, ◌*◌, ◌<◌, ◌^�
 ghost use Rattle.cell.specs.Limits.{edition};
 ghost use Rattle.sides.specs.Sides.{side_number};
 ghost use Rattle.recording.specs.Recording.{side_count};
-ghost use Rattle.format.specs.Layout.{Small};
-ghost use Rattle.format.specs.Format.{item_at, width_of, names_act, run_of, seats_at, sides_at, number_at, label_at, judgement_of};
+ghost use Rattle.format.specs.Layout.{Small, plan_of};
+ghost use Rattle.format.specs.Format.{item_at, width_of, names_act, run_of, seats_at, sides_at, number_at, label_at, parsed_of, judgement_of};
 
 use codes::{Code, Refusal};
 use sides::Side;
@@ -26,6 +26,13 @@ pub struct Plan {
     pub second: usize,
     pub schedule: usize,
     pub acts: usize,
+}
+
+// What judging a file comes to: where a file that is taken ends, or its first refusal; and its plan, so that nobody works it out again.
+#[derive(Clone, Copy, Debug, PartialEq, Eq)]
+pub struct Judgement {
+    pub verdict: Result<usize, Refusal>,
+    pub plan: Plan,
 }
 
 // The items of a counted array, three kinds and no more, so an enum and no trait: entries of a table of so many states, looms fitted with
@@ -142,9 +149,36 @@ fn label_at(file: &[u8], at: usize) -> Result<usize, Refusal>
     xdr::opaque_at(file, at + 4, length, 32..127, Code::Label)
 }
 
-// A file's plan, or its first refusal, in file order.
-pub fn judge(file: &[u8]) -> Result<Plan, Refusal>
-    ensures judged { result ≡ judgement_of edition file.now }
+// The parts of a file, each where the words before it put it. A file that ends early has 0 for the words it lacks.
+fn planned(file: &[u8]) -> Plan
+    ensures { (result ≡ plan_of file.now) × Small result }
+{
+    let entries = xdr::word_at(file, 8);
+    let start = 12 + 4 * entries;
+    let looms = xdr::word_at(file, start + 4);
+    let numbers = start + 8 + 8 * looms;
+    let first = xdr::word_at(file, numbers + 8);
+    let rest = numbers + 8 + 4 + first + xdr::pad(first);
+    let second = xdr::word_at(file, rest);
+    let schedule = rest + 4 + second + xdr::pad(second);
+    Plan {
+        states: xdr::word_at(file, 0),
+        operations: xdr::word_at(file, 4),
+        entries,
+        start,
+        looms,
+        numbers,
+        first,
+        rest,
+        second,
+        schedule,
+        acts: xdr::word_at(file, schedule),
+    }
+}
+
+// The plan of a file that is taken, read field by field, or the first refusal, in file order.
+fn parsed(file: &[u8]) -> Result<Plan, Refusal>
+    ensures judged { result ≡ parsed_of edition file.now }
     ensures small { IfOk result Small }
 {
     let states = xdr::field_at(file, 0, 1..cell::STATES + 1, Code::States)?;
@@ -183,4 +217,20 @@ pub fn judge(file: &[u8]) -> Result<Plan, Refusal>
         schedule,
         acts,
     })
+}
+
+// A file's first refusal, in file order, or for a file that is taken where it ends; and its plan, of a refused file too.
+pub fn judge(file: &[u8]) -> Judgement
+    ensures { (result ≡ judgement_of edition file.now) × Small result.plan }
+{
+    match parsed(file) {
+        Ok(plan) => Judgement {
+            verdict: Ok(plan.schedule + 4 + 4 * plan.acts),
+            plan,
+        },
+        Err(refusal) => Judgement {
+            verdict: Err(refusal),
+            plan: planned(file),
+        },
+    }
 }

@@ -97,7 +97,9 @@ pub fn read(file: &[u8], table: &mut [u8], schedule: &mut [u8]) -> Result<Order,
     if table.len() < TABLE || schedule.len() < cell::ENTRIES {
         return Err(Code::NoRoom.at(0));
     }
-    let plan = format::judge(file)?;
+    let judgement = format::judge(file);
+    judgement.verdict?;
+    let plan = judgement.plan;
     fill(file, 12, &mut table[..plan.entries]);
     fill(file, plan.schedule + 4, &mut schedule[..plan.acts]);
     Ok(Order {
