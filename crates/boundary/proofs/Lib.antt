@@ -1,2 +1,4 @@
 pub mod ReadRuns
 pub mod ReadRunsLaws
+pub mod CheckNumbers
+pub mod CheckNumbersLaws
