@@ -57,7 +57,7 @@ impl Size {
         ensures { result ≡ after_zero self.n state }
     {
         if state < self.n {
-            self.n as u8
+            self.n as u8 // (B, 0)
         } else if state == self.n {
             0
         } else {
