@@ -162,7 +162,10 @@ impl Tally {
                 Said::Answer(Side::A, _) => self.answers.a += 1,
                 Said::Answer(Side::B, _) => self.answers.b += 1,
             }
-            self.longest = self.longest.max(usize::from(told.steps));
+            // A restart tells 0, which lengthens nothing. Without the test a run of restarts of one loom takes half as long again.
+            if told.steps != 0 {
+                self.longest = self.longest.max(usize::from(told.steps));
+            }
         }
     }
 }
