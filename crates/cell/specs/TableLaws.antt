@@ -1,10 +1,10 @@
 -- Laws of a table's lookup and of its form.
 -- Assumes nothing.
-use Rattle.std.specs.Prelude.{ℕ, ◌*◌, ◌≤◌, ◌<◌, ◌≡◌, refl, Bool, true, false, not, cond, ◌||◌, Option, Some, None, Ok, Err, List, T, leb, ltb, eqb, length, get_or}
-use Rattle.std.proofs.Common.{sym, ap, subst, ◌∙◌, le_refl, mul-le-mul, suc-mul, mul-le-mul_right, lt_of_lt_of_le, mul_comm, arith}
+use Rattle.std.specs.Prelude.{ℕ, ◌+◌, ◌*◌, ◌≤◌, ◌<◌, ◌≡◌, refl, Bool, true, false, not, cond, ◌||◌, Option, Some, None, Ok, Err, List, T, leb, ltb, eqb, length, get_or, drop}
+use Rattle.std.proofs.Common.{sym, ap, subst, ◌∙◌, add-one, drop-cons, drop_of_length-le, le_refl, mul-le-mul, suc-mul, mul-le-mul_right, lt_of_lt_of_le, mul_comm, arith}
 use Rattle.std.proofs.lemmas.Option.{none-some}
-use Rattle.std.proofs.lemmas.List.Sums.{position_or_len_is, fails_before_first}
-use borrow.Author.Tests.{lt-ltb, le-ltb, le-leb, lt-leb, leb-false, ltb-false, ltb-true, eqb-true, eq-eqb, ne_eqb}
+use Rattle.std.proofs.lemmas.List.Sums.{position_or_len_is, passes_at_first, fails_before_first}
+use borrow.Author.Tests.{lt-ltb, le-ltb, le-leb, lt-leb, leb-true, leb-false, ltb-false, ltb-true, eqb-true, eq-eqb, ne_eqb}
 use Rattle.std.specs.List as list
 use Rattle.std.specs.Bool.{then_some}
 use Rattle.codes.specs.Codes.{refused_at}
@@ -111,6 +111,41 @@ all_below states table none i h = go (ltb (list.position_or_len (leb states) tab
         → cond t (Some (list.position_or_len (leb states) table)) None ≡ None → get_or table i 0 < states
     go true e some = absurd (none-some _ (sym some))
     go false e some = leb-false _ _ (fails_before_first (leb states) table i 0 (let all = ltb-false _ _ e in omega arith))
+
+-- "Place: the lowest entry for 5": where one is outside, it is an entry, and those before it are not.
+pub first_is_lowest : (states : ℕ) (table : List ℕ) (place : ℕ) → first_outside states table ≡ Some place
+    → (place < length table) × (states ≤ get_or table place 0) × ((i : ℕ) → i < place → get_or table i 0 < states)
+first_is_lowest states table place found = go (ltb first (length table)) refl found
+  where
+    first : ℕ
+    first = list.position_or_len (leb states) table
+
+    at_first : first < length table → (first < length table) × (states ≤ get_or table first 0) × ((i : ℕ) → i < first → get_or table i 0 < states)
+    at_first h = (
+      h,
+      leb-true _ _ (passes_at_first (leb states) table 0 h),
+      λ i l. leb-false _ _ (fails_before_first (leb states) table i 0 l),
+    )
+
+    go : (t : Bool) → ltb first (length table) ≡ t → cond t (Some first) None ≡ Some place
+        → (place < length table) × (states ≤ get_or table place 0) × ((i : ℕ) → i < place → get_or table i 0 < states)
+    go true e is =
+        let same : first ≡ place = cc in
+        subst (λ (p : ℕ). (p < length table) × (states ≤ get_or table p 0) × ((i : ℕ) → i < p → get_or table i 0 < states)) same
+        (at_first (ltb-true _ _ e))
+    go false e is = cc
+
+-- The first entry outside, looked for from place i on: there, further on, or nowhere.
+module _ (states : ℕ) (table : List ℕ) (i : ℕ) where
+  pub outside_here : i < length table → states ≤ get_or table i 0 → i + list.position_or_len (leb states) (drop i table) ≡ i
+  outside_here within h = rw (drop-cons table i 0 within) (simp (le-leb _ _ h) (omega arith))
+
+  pub outside_further : i < length table → get_or table i 0 < states
+      → (i + 1) + list.position_or_len (leb states) (drop (i + 1) table) ≡ i + list.position_or_len (leb states) (drop i table)
+  outside_further within h = rw (drop-cons table i 0 within, add-one) (simp (lt-leb _ _ h) (omega arith))
+
+  pub outside_none : length table ≤ i → i + list.position_or_len (leb states) (drop i table) ≡ i
+  outside_none past = rw (drop_of_length-le table past) (omega arith)
 
 -- A table that has form: what it is not to be refused.
 pub record HasForm (table : List ℕ) (states operations : ℕ) : Type 0 where

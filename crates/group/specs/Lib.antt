@@ -1,5 +1,6 @@
 pub mod Group
 pub mod GroupLaws
+pub mod FromLoomLaws
 pub mod Step
 pub mod StepLaws
 pub mod Open

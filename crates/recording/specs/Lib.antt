@@ -2,6 +2,7 @@ pub mod AdmittedLaws
 pub mod CatalogueCertificate
 pub mod Check
 pub mod CheckLaws
+pub mod FromLoomLaws
 pub mod Clauses
 pub mod Fitting
 pub mod FittingLaws

@@ -2,6 +2,7 @@
 -- Assumes nothing.
 use Prim.Native.Nat.{ℕ, zero, suc, ◌≤◌, ◌<◌, min}
 use native.Mathlib.Omega.{arith}
+use borrow.Author.Tests.{lt-ltb}
 use Rattle.std.proofs.Common.{◌∙◌}
 use Rattle.std.specs.Prelude.{◌≡◌, refl, Bool, true, false, cond, List, [], ◌∷◌, Option, Some, None, Ok, Err, length, get_or, take}
 use Rattle.std.proofs.Math.Path.{sym, ap}
@@ -9,7 +10,7 @@ use Rattle.std.proofs.lemmas.List.Sums.{AllPass-from_list_all}
 use Rattle.codes.specs.declared.Code.TheVariants.{HasAnswered}
 use Rattle.cell.specs.Table.{entry_of}
 use Rattle.cell.specs.TableLaws.{good_moves}
-use Rattle.cell.specs.Limits.{edition}
+use Rattle.cell.specs.Limits.{edition, first_restart}
 use Rattle.recording.specs.declared.Certificate.{Certificate}
 use Rattle.recording.specs.Check.{looms_of}
 use Rattle.sides.specs.declared.Side.{Side}
@@ -25,6 +26,7 @@ use Rattle.group.specs.Open.{open_of}
 use Rattle.group.specs.Group.{empty_loom, loom_at, count_of, lead_of, group_rules, with_loom, with_shared, with_looms, no_loom, looms_restarted}
 use Rattle.group.specs.GroupLaws.{restarted_looms}
 use Rattle.loom.specs.Turn.{has_answered}
+use Rattle.group.specs.Step.{step_of}
 use Rattle.group.specs.StepLaws.{restart_of_loom, restart_all_of_lem}
 use Rattle.demands.specs.Kept.{Kept}
 use Rattle.demands.proofs.FitsLaws.{such_loom, step_of_answered, step_of_unanswered}
@@ -84,6 +86,11 @@ module _ (table : List ℕ) (states operations : ℕ) (g : Group) where
   kept_by_acted (Some (Restart k)) = kept_by_restart g k
   kept_by_acted (Some RestartAll) = kept_by_restart_of_all g
   kept_by_acted None = kept_itself g
+
+  -- An entry below the limit of looms is a step of that loom.
+  pub step_in_place : (e : ℕ) → e < edition.looms → step_of table states operations g e ≡ acted_of table states operations g (act_of e)
+  unfolding acted_of act_of
+  step_in_place e low = rw (lt-ltb e first_restart (omega arith))
 
   -- A restart of loom k.
   pub restart_in_place : (k : ℕ) → no_loom g k ≡ false →

@@ -1,4 +1,5 @@
 pub mod Acts
+pub mod ActsLaws
 pub mod Played
 pub mod InPlace
 pub mod Run
