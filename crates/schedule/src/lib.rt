@@ -162,7 +162,7 @@ impl Tally {
                 Said::Answer(Side::A, _) => self.answers.a += 1,
                 Said::Answer(Side::B, _) => self.answers.b += 1,
             }
-            // A restart tells 0, which lengthens nothing. Without the test a run of restarts of one loom takes half as long again.
+            // A restart tells 0, which lengthens nothing. Without the test a run of restarts of one loom takes a fifth longer, or more.
             if told.steps != 0 {
                 self.longest = self.longest.max(usize::from(told.steps));
             }
