@@ -4,6 +4,7 @@ use Rattle.std.specs.Prelude.{ℕ, ◌+◌, ◌<◌, ◌^◌, ◌≡◌, Bool, L
 use Rattle.std.proofs.Common.{sym, ◌∙◌}
 use Rattle.codes.specs.declared.Code.{Code}
 use Rattle.codes.specs.declared.Code.TheVariants.{FileEnds}
+use Rattle.codes.specs.Codes.{number_of}
 use Rattle.xdr.specs.Field.{FieldWith, word_at, within, anything, field_with, end_with}
 use Rattle.xdr.specs.Opaque.{pad_of, part_of, past_with, opaque_with}
 
@@ -32,7 +33,7 @@ only-file_ends ends r r' = same
 pub code-only-file_ends : (r r' : Code) → r ≡ FileEnds → r' ≡ FileEnds → r ≡ r'
 code-only-file_ends r r' = same
 
-pub number-only-file_ends : (r r' : ℕ) → r ≡ 1 → r' ≡ 1 → r ≡ r'
+pub number-only-file_ends : (r r' : ℕ) → r ≡ number_of FileEnds → r' ≡ number_of FileEnds → r ≡ r'
 number-only-file_ends r r' = same
 
 -- what a rule says of a value, a range's and that of everything

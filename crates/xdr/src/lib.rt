@@ -3,7 +3,7 @@
 
 ghost use Rattle.std.specs.Prelude.{ℕ, ◌≡◌, ◌+◌, ◌<◌, ◌^◌, Bool, length, leb};
 ghost use Rattle.codes.specs.declared.Code.TheVariants.{FileEnds};
-ghost use Rattle.codes.specs.Codes.{refused_at};
+ghost use Rattle.codes.specs.Codes.{number_of, refused_at};
 ghost use Rattle.xdr.specs.Field.{word_at, within, anything, field_with, end_with};
 ghost use Rattle.xdr.specs.Opaque.{pad_of, part_of, past_with, opaque_with};
 
@@ -55,10 +55,10 @@ impl Reason for Code {
 
 // By the number of that code.
 impl Reason for u8 {
-    ghost file_ends = { 1 };
+    ghost file_ends = { number_of FileEnds };
 
     fn file_ends() -> u8 {
-        1
+        u8::from(Code::FileEnds)
     }
 }
 
